@@ -7,10 +7,11 @@
 --     row-is, rows-step                            one row, lent as a part to a callee that leaves K of it
 --     Rows, fill-none, fill-row                    rows that a callee fills
 --     rows-same, cols-same                         passes of equal grids are equal
+--     grid-within, grid-mapped                     the first h * w numbers as a list: their bound; a callee that rewrites each
 use mathlib.Core.Path.{_≡_, refl, sym, ap, _∙_, subst}
 use mathlib.Core.Logic.{_⊎_, inl, inr}
 use mathlib.Core.List.{List, _++_}
-use Prim.Native.Nat.{ℕ, zero, suc, _+_, _*_, _-_, _≤_, _<_, zero-le}
+use Prim.Native.Nat.{ℕ, zero, suc, _+_, _*_, _-_, _/_, _%_, _≤_, _<_, zero-le}
 use native.Mathlib.Omega.{arith}
 use native.Mathlib.Nat as N
 use native.Mathlib.Decide.{ℕ-discrete}
@@ -19,10 +20,10 @@ use lib.Arith.{lt-of-le-ne}
 use lib.IntN.{ℤ, pos, natAbs}
 use lib.ListN.{length, getD, set, take, drop, length-set, length-take, length-drop, List·getD-append}
 use lib.Seq.{getD-set-same, getD-set-other, getD-take, getD-drop, getD-append-add}
-use Rattle.whole.specs.Sums.{tab}
-use Rattle.whole.specs.Grid.{gridOf, rowsBy, colsBy, Same}
-use Rattle.whole.proofs.Fill.{filled-all, length-tab, tab-same}
-use Rattle.whole.proofs.Cells.{under, cell-in, row-in, row-below, other-column, other-row}
+use Rattle.whole.specs.Sums.{tab, Within}
+use Rattle.whole.specs.Grid.{gridOf, rowsBy, colsBy, Same, Bounded}
+use Rattle.whole.proofs.Fill.{filled-all, length-tab, tab-at, tab-same}
+use Rattle.whole.proofs.Cells.{row-of, column-of, under, cell-in, row-in, row-below, other-column, other-row}
 
 -- ---- a part of n places from a
 pub part-tab : (t : List ℤ) (a n : ℕ) → a + n ≤ length t → take n (drop a t) ≡ tab n (λ x. getD t (a + x) (pos 0))
@@ -183,3 +184,22 @@ rows-same {w} {h} {f} {g} K e r x a b = ap (λ l. getD (K l) x (pos 0)) (tab-sam
 
 pub cols-same : {w h : ℕ} {f g : ℕ → ℕ → ℤ} (K : List ℤ → List ℤ) → Same w h f g → Same w h (colsBy K h f) (colsBy K h g)
 cols-same {w} {h} {f} {g} K e r x a b = ap (λ l. getD (K l) r (pos 0)) (tab-same h (λ i. f i x) (λ i. g i x) (λ i q. e i x q b))
+
+-- ---- the first h * w numbers of an area, as a list
+pub grid-within : (b w h : ℕ) (t : List ℤ) → Bounded b w h (gridOf w t) → Within b (take (h * w) t)
+grid-within b w h t p k l =
+    let q = N.lt-of-lt-of-le l (subst (λ (n : ℕ). n ≤ h * w) (sym (length-take (h * w) t)) (N.min-le-left (h * w) (length t))) in
+    subst (λ (z : ℤ). natAbs z ≤ b) (sym (getD-take (h * w) t k (pos 0) q ∙ ap (λ j. getD t j (pos 0)) (sym (N.div-add-mod' k w))))
+    (p (k / w) (k % w) (row-of w h k q) (column-of w h k q))
+
+-- a callee that rewrites each of them by f
+pub grid-mapped : (w h : ℕ) (f : ℤ → ℤ) (t ys : List ℤ) → h * w ≤ length t
+    → ys ≡ tab (length (take (h * w) t)) (λ k. f (getD (take (h * w) t) k (pos 0)))
+    → Same w h (gridOf w (ys ++ drop (h * w) t)) (λ r x. f (gridOf w t r x))
+grid-mapped w h f t ys fit e r x a b =
+    let q = cell-in a b (N.le-refl (h * w)) in
+    let n = length-take (h * w) t ∙ N.min-eq-left fit in
+    List·getD-append ys (drop (h * w) t) (pos 0) (r * w + x) (subst (λ (m : ℕ). r * w + x < m) (sym (ap length e ∙ length-tab (length (take (h * w) t)) (λ k. f (getD (take (h * w) t) k (pos 0))) ∙ n)) q)
+    ∙ ap (λ l. getD l (r * w + x) (pos 0)) e
+    ∙ tab-at (pos 0) (length (take (h * w) t)) (λ k. f (getD (take (h * w) t) k (pos 0))) (r * w + x) (subst (λ (m : ℕ). r * w + x < m) (sym n) q)
+    ∙ ap f (getD-take (h * w) t (r * w + x) (pos 0) q)

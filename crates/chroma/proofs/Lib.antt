@@ -1,0 +1,4 @@
+-- Rounding (the shift that rounds), Verdict (what an answer of Done tells), Outcomes (what the call's promise gives).
+pub mod Rounding
+pub mod Verdict
+pub mod Outcomes
