@@ -1,0 +1,14 @@
+-- `kernels::dst::inv_ddt8` meets its contract: one test of its table. Assumes nothing.
+use mathlib.Core.Bool.{false}
+use borrow.Author.Needs.{needs}
+use lib.Dec.{lit≤}
+use Rattle.tables.specs.Dst.{ddt8}
+use Rattle.kernels.proofs.ByRows.{dst-asks, dst-left}
+use Rattle.kernels.proofs.dst.inv_ddt8.Statement.{statement}
+use Rattle.kernels.proofs.dst.inv_ddt8.Tie as tie
+
+pub inv-ddt8-spec : {M : Type 1} → statement M
+inv-ddt8-spec =
+    tie.close
+    (tie.spec (λ c. search needs) (λ c κs. let s = c .before .before in dst-asks 8 ddt8 tt (s .args .c .now) (s .pre) (lit≤ tt)) (λ c. search needs)
+    (λ c. let s = c .before .before .before .before in dst-left false 8 ddt8 (s .args .c .now) (s .pre) (c .before .inv-dst .ensures)))

@@ -1,0 +1,97 @@
+-- `kernels::sums::dot` meets its contract: after i turns the sum is that of the first i products, and no partial sum exceeds the spread. Assumes nothing.
+use mathlib.Core.Path.{_≡_, refl, sym, ap, _∙_}
+use mathlib.Core.List.{List}
+use Prim.Native.Nat.{ℕ, _-_, _≤_}
+use native.Mathlib.Nat.{lt-of-le-of-lt}
+use native.Mathlib.Numerals.{add-one}
+use native.Mathlib.Omega.{arith}
+use lib.IntN.{ℤ, pos}
+use lib.ListN.{length, getD, take}
+use lib.Seq.{take-all}
+use mir.Syntax.{w32}
+use mir.Val.{toZ}
+use borrow.Author.Needs.{needs}
+use Rattle.whole.specs.Sums.{dotZ}
+use Rattle.whole.proofs.Sums.{dot-step, step-size}
+use Rattle.whole.proofs.MulAdd.{Turn, cast-fits, product-fits, sum-fits, sum-is}
+use Rattle.kernels.proofs.sums.dot.Statement.{statement}
+use Rattle.kernels.proofs.sums.dot.Tie as tie
+
+abbrev Inv-loop : tie.InvT-loop
+Inv-loop mat v acc₀ i₀ acc i = (i ≤ length mat) × (toZ w32 acc ≡ dotZ (take i mat) v)
+
+abbrev μ-loop : tie.MeasureT-loop
+μ-loop mat v acc₀ i₀ acc i = length mat - i
+
+module _ (c : tie.After-acc2 Inv-loop μ-loop) where
+  abbrev row : List ℤ
+  row = c .before .before .before .before .args .mat .now
+
+  abbrev xs : List ℤ
+  xs = c .before .before .before .before .args .v .now
+
+  abbrev i : ℕ
+  i = c .before .before .before .loop .i
+
+  turn : Turn (getD row i (pos 0)) (getD xs i (pos 0)) (toZ w32 (c .before .before .before .loop .acc)) (dotZ (take i row) xs)
+  turn =
+      record {
+        table = c .before .acc .given;
+        input = c .acc2 .given;
+        sum = c .before .before .before .loop .inv .1;
+        room = lt-of-le-of-lt (step-size i row xs) (c .before .before .before .before .pre .1);
+      }
+
+loop-holds : tie.Need-loop-holds Inv-loop μ-loop
+loop-holds c = (search needs, refl)
+
+shared-slice-copy-out-acc : tie.Need-shared-slice-copy-out-acc Inv-loop μ-loop
+shared-slice-copy-out-acc c = omega arith
+
+cast-acc : tie.Need-cast-acc Inv-loop μ-loop
+cast-acc c = cast-fits (getD (c .before .before .before .args .mat .now) (c .before .before .loop .i) (pos 0)) (c .acc .given)
+
+mul-acc : tie.Need-mul-acc Inv-loop μ-loop
+mul-acc c = omega arith
+
+shared-slice-copy-out-acc-2 : tie.Need-shared-slice-copy-out-acc-2 Inv-loop μ-loop
+shared-slice-copy-out-acc-2 c = omega arith
+
+mul-acc-2 : tie.Need-mul-acc-2 Inv-loop μ-loop
+mul-acc-2 c = product-fits (turn c)
+
+add-acc : tie.Need-add-acc Inv-loop μ-loop
+add-acc c = sum-fits (turn c)
+
+add-i : tie.Need-add-i Inv-loop μ-loop
+add-i c = omega arith
+
+loop-less : tie.Need-loop-less Inv-loop μ-loop
+loop-less c = omega arith
+
+loop-again : tie.Need-loop-again Inv-loop μ-loop
+loop-again c = (
+  omega arith,
+  sum-is (turn c) ∙ sym (dot-step (i c) (row c) (xs c)) ∙ ap (λ n. dotZ (take n (row c)) (xs c)) (sym (add-one (i c))),
+)
+
+returns : tie.Need-returns Inv-loop μ-loop
+returns c = c .before .loop .inv .1 ∙ ap (λ l. dotZ l (c .before .before .args .v .now)) (take-all (c .before .loop .i) (c .before .before .args .mat .now) (c .loop-test .left))
+
+pub dot-spec : {M : Type 1} → statement M
+dot-spec =
+    tie.close
+    (tie.spec
+    Inv-loop
+    μ-loop
+    loop-holds
+    shared-slice-copy-out-acc
+    cast-acc
+    mul-acc
+    shared-slice-copy-out-acc-2
+    mul-acc-2
+    add-acc
+    add-i
+    loop-less
+    loop-again
+    returns)

@@ -1,0 +1,98 @@
+-- `passes::load::load_row` meets its contract: after x turns the first x places hold their coefficients. Assumes nothing.
+use mathlib.Core.Path.{_≡_, refl, sym, ap, _∙_, subst}
+use Prim.Native.Nat.{ℕ, _+_, _*_, _-_, _≤_, _<_}
+use native.Mathlib.Nat as N
+use native.Mathlib.Omega.{arith}
+use borrow.Author.Needs.{needs, scaled-fits}
+use lib.IntN.{ℤ, pos}
+use lib.ListN.{length, getD}
+use mir.Syntax.{w32}
+use mir.Val.{toZ, ofZ}
+use mir.ValLaws.{toZ-ofZ}
+use Rattle.whole.specs.Numbers.{clamp}
+use Rattle.whole.proofs.Cells.{cell-in}
+use Rattle.whole.proofs.Num.{back}
+use Rattle.whole.proofs.Fill.{Filling, fill-start, fill-more, fill-done}
+use Rattle.passes.specs.Passes.{scaling}
+use Rattle.passes.proofs.load.load_row.Statement.{statement}
+use Rattle.passes.proofs.load.load_row.Tie as tie
+
+abbrev Inv-loop : tie.InvT-loop
+Inv-loop row₀ coeff sh r scale lo hi n x₀ row x = Filling (pos 0) (length row₀) (λ k. clamp (toZ w32 lo) (toZ w32 hi) (scaling scale (getD coeff (r + k * sh) (pos 0)))) row x
+
+abbrev μ-loop : tie.MeasureT-loop
+μ-loop row₀ coeff sh r scale lo hi n x₀ row x = length row₀ - x
+
+at : (c : tie.In-loop Inv-loop μ-loop) → let s = c .before .before in s .args .r + c .before .loop .x * s .args .sh < length (s .args .row .now) * s .args .sh
+at c = omega (arith, cell-in (c .loop-test .taken) (c .before .before .pre .0) (N.le-refl _))
+
+loop-holds : tie.Need-loop-holds Inv-loop μ-loop
+loop-holds c = fill-start refl
+
+mul-scaled : tie.Need-mul-scaled Inv-loop μ-loop
+mul-scaled c = omega (arith, at c, c .before .before .pre .1)
+
+add-scaled : tie.Need-add-scaled Inv-loop μ-loop
+add-scaled c = omega (arith, at c, c .before .before .pre .1)
+
+mul-scaled-2 : tie.Need-mul-scaled-2 Inv-loop μ-loop
+mul-scaled-2 c = scaled-fits _ _ 4 (N.lt-of-lt-of-le (at c) (c .before .before .pre .1)) (c .before .before .good .1 .0 .1)
+
+shared-slice-copy-out-scaled : tie.Need-shared-slice-copy-out-scaled Inv-loop μ-loop
+shared-slice-copy-out-scaled c = N.lt-of-lt-of-le (at c) (c .before .before .pre .1)
+
+scaled-requires : tie.Need-scaled-requires Inv-loop μ-loop
+scaled-requires c κs = let l = c .before in rw (toZ-ofZ w32 _ (record { sfits = c .scaled-arg .given })) (l .before .before .pre .2 _ (at l))
+
+clamped-requires : tie.Need-clamped-requires Inv-loop μ-loop
+clamped-requires c κs = search needs
+
+mul-t12 : tie.Need-mul-t12 Inv-loop μ-loop
+mul-t12 c = omega arith
+
+slice-set-from-row : tie.Need-slice-set-from-row Inv-loop μ-loop
+slice-set-from-row c = omega arith
+
+add-x : tie.Need-add-x Inv-loop μ-loop
+add-x c = omega arith
+
+loop-less : tie.Need-loop-less Inv-loop μ-loop
+loop-less c = omega arith
+
+loop-again : tie.Need-loop-again Inv-loop μ-loop
+loop-again c =
+    let k = c .before in
+    let l = k .before .before in
+    let s = l .before .before in
+    fill-more (l .before .loop .inv) (l .loop-test .taken)
+    (back (c .clamped .ok) ∙ c .clamped .ensures
+    ∙ ap (clamp (toZ w32 (ofZ w32 (s .args .lo))) (toZ w32 (ofZ w32 (s .args .hi)))) (back (k .scaled .ok) ∙ k .scaled .ensures ∙ ap (scaling (s .args .scale)) (toZ-ofZ w32 _ (record { sfits = k .before .scaled-arg .given }))))
+
+same-length : tie.Need-same-length Inv-loop μ-loop
+same-length c = omega arith
+
+returns : tie.Need-returns Inv-loop μ-loop
+returns c =
+    let s = c .before .before in
+    rw (← toZ-ofZ w32 (s .args .lo) (s .fits .lo), ← toZ-ofZ w32 (s .args .hi) (s .fits .hi)) (fill-done (c .before .loop .inv) (c .loop-test .left))
+
+pub load-row-spec : {M : Type 1} → statement M
+load-row-spec =
+    tie.close
+    (tie.spec
+    Inv-loop
+    μ-loop
+    loop-holds
+    mul-scaled
+    add-scaled
+    mul-scaled-2
+    shared-slice-copy-out-scaled
+    scaled-requires
+    clamped-requires
+    mul-t12
+    slice-set-from-row
+    add-x
+    loop-less
+    loop-again
+    same-length
+    returns)

@@ -1,0 +1,2 @@
+-- From coefficients to the numbers after the columns.
+pub mod Passes

@@ -1,0 +1,73 @@
+-- The passes, from document 01, "From coefficients to pixels", down to the columns. Definitions only; g r x is row r, column x.
+--     scaling      of a coefficient: floor ((181 v + 128) / 256) where the size asks for it
+--     entry        a coefficient as it enters: scaled where log2 w + log2 h is odd, then clamped to -2^(depth+7) .. 2^(depth+7) - 1
+--     Scalable     the range in which a scaled coefficient is accepted, for the first n numbers
+--     loaded       the coefficient of row r, column x is number r + x * sh
+--     clampTo      to -2^bits .. 2^bits - 1
+--     settledTo    half of 2^shift added, divided by 2^shift, rounded down, clamped: after the rows to the same range
+--     blockOf      every row through the horizontal kernel, the step between, every column through the vertical kernel
+--     passesOf     the same for a size number and a type number
+use mathlib.Core.Path.{_≡_}
+use mathlib.Core.Bool.{Bool, true, cond}
+use mathlib.Core.List.{List}
+use Prim.Native.Nat.{ℕ, _+_, _*_, _≤_, _<_}
+use lib.IntN.{ℤ, pos, negsuc, _+ℤ_, _*ℤ_}
+use lib.ListN.{length, getD}
+use Rattle.whole.specs.Numbers.{inRange, clamp, floorDiv, roundShift, lowest, highest}
+use Rattle.whole.specs.Grid.{rowsBy, colsBy}
+use Rattle.tables.specs.declared.size.Size.{Size}
+use Rattle.tables.specs.Sizes.{sizeAt, cut, scaled}
+use Rattle.tables.specs.Kinds.{horOf, verOf, hasKind}
+use Rattle.tables.specs.Dense.{denseOf}
+
+abbrev pub clampTo : ℕ → ℤ → ℤ
+clampTo bits z = clamp (lowest bits) (highest bits) z
+
+unfoldable pub scaling : Bool → ℤ → ℤ
+scaling scale v = cond scale (floorDiv (pos 181 *ℤ v +ℤ pos 128) 256) v
+
+abbrev pub entry : Bool → ℕ → ℤ → ℤ
+entry scale depth v = clampTo (depth + 7) (scaling scale v)
+
+abbrev pub settledTo : ℕ → ℕ → ℤ → ℤ
+settledTo bits shift z = clampTo bits (roundShift shift z)
+
+abbrev pub loaded : Bool → ℕ → ℕ → List ℤ → ℕ → ℕ → ℤ
+loaded scale depth sh cs r x = entry scale depth (getD cs (r + x * sh) (pos 0))
+
+-- the passes of a block of w by h, with the shift after its rows and the kinds of its rows and columns
+abbrev pub middleOf : ℕ → ℕ → ℕ → ℕ → ℕ → List ℤ → ℕ → ℕ → ℤ
+middleOf w h first hor depth cs r x = settledTo (depth + 7) first (rowsBy (denseOf w hor) (cut w) (loaded (scaled w h) depth (cut h) cs) r x)
+
+abbrev pub blockOf : ℕ → ℕ → ℕ → ℕ → ℕ → ℕ → List ℤ → ℕ → ℕ → ℤ
+blockOf w h first hor ver depth cs = colsBy (denseOf h ver) (cut h) (middleOf w h first hor depth cs)
+
+unfoldable pub passesOf : ℕ → ℕ → ℕ → List ℤ → ℕ → ℕ → ℤ
+unfolding denseOf scaling clamp
+passesOf tx txtp depth cs = blockOf (sizeAt tx .w) (sizeAt tx .h) (sizeAt tx .first) (horOf txtp) (verOf txtp) depth cs
+
+-- the first n numbers of cs may be scaled, where the size asks for it
+abbrev pub scalable : ℤ → Bool
+scalable v = inRange (negsuc 11864549) (pos 11864549) v
+
+abbrev pub Scalable : Bool → ℕ → List ℤ → Type 0
+Scalable scale n cs = (k : ℕ) → k < n → scale ≡ true → scalable (getD cs k (pos 0)) ≡ true
+
+-- what the passes ask of a block
+pub record Block (w h first hor ver depth : ℕ) (cs : List ℤ) : Type 0 where
+  pub across : hasKind w hor ≡ true
+  pub down : hasKind h ver ≡ true
+  pub shift : first ≤ 16
+  pub deep : depth ≤ 12
+  pub long : cut w * cut h ≤ length cs
+  pub range : Scalable (scaled w h) (cut w * cut h) cs
+
+abbrev pub Ready : ℕ → ℕ → ℕ → List ℤ → Type 0
+Ready tx txtp depth cs = Block (sizeAt tx .w) (sizeAt tx .h) (sizeAt tx .first) (horOf txtp) (verOf txtp) depth cs
+
+-- the sides of the work area of a size
+abbrev pub swOf : ℕ → ℕ
+swOf tx = cut (sizeAt tx .w)
+
+abbrev pub shOf : ℕ → ℕ
+shOf tx = cut (sizeAt tx .h)
