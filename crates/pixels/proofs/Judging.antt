@@ -1,0 +1,163 @@
+-- The verdicts of the pixel calls, taken apart. Assumes nothing.
+--     flat-cell, coeff-search     the search over sw rows of sh coefficients is the search over all of them
+--     Kinds, kinds-passed, kinds-opens, kinds-stays     refusals 1 to 4: what an answer of Done tells, when they pass, that they don't depend on what follows
+--     Plane, Buffers, add-passed, float-passed     what a verdict of Done tells of the whole call; ready: an accepted block is ready for the passes
+--     sides, last-row             the sides of a size; a plane that reaches the last row reaches every row
+use mathlib.Core.Path.{_≡_, refl, sym, ap, _∙_, subst}
+use mathlib.Core.Bool.{Bool, true, false, _&&_, cond}
+use mathlib.Core.List.{List}
+use Prim.Native.Nat.{ℕ, suc, _+_, _*_, _-_, _/_, _%_, _≤_, _<_, zero-le}
+use native.Mathlib.Nat as N
+use native.Mathlib.Omega.{arith}
+use borrow.Author.Tests.{leb-true, le-leb}
+use lib.Dec.{T, leb, leb→le}
+use lib.Pow.{pow-mono}
+use lib.IntN.{ℤ, pos, negsuc, natAbs}
+use lib.ListN.{length, getD}
+use Rattle.whole.specs.Search.{seek, cellAt}
+use Rattle.whole.specs.Numbers.{highest}
+use Rattle.whole.specs.Grid.{gridOf, Bounded}
+use Rattle.whole.proofs.Search.{seek-same, seek-all, seek-passed}
+use Rattle.whole.proofs.Range.{in-range-size, highest-size}
+use Rattle.whole.proofs.Cells.{cell-place, cell-in}
+use Rattle.whole.proofs.Tests.{both, and-true, and-left, and-right, below, below-at}
+use Rattle.answers.specs.declared.Answer.{Answer}
+use Rattle.answers.specs.Answers.{done, refused, unless, searched}
+use Rattle.answers.proofs.Verdicts.{passed, search-passed, stays}
+use Rattle.ranges.specs.Cells.{cellOk}
+use Rattle.tables.specs.declared.size.Size.{Size}
+use Rattle.tables.specs.Sizes.{sizeAt, cut, scaled}
+use Rattle.tables.specs.Kinds.{horOf, verOf, hasKind}
+use Rattle.passes.specs.Passes.{scalable, Scalable, Ready}
+use Rattle.passes.proofs.Steps.{shifts}
+use Rattle.pixels.specs.Calls.{wOf, hOf, Sides, kinds, coeffOk, numbers, onPlane, onBuffers, addVerdict, floatVerdict}
+
+-- ---- coefficients
+flat-cell : (w k : ℕ) → cellAt 0 w w k ≡ k
+flat-cell w k = omega (arith, N.div-add-mod' k w)
+
+pub coeff-search : (cs : List ℤ) (w n : ℕ) → seek (cellOk (negsuc 11864549) (pos 11864549) cs 0 w w) 0 n ≡ seek (coeffOk true cs) 0 n
+coeff-search cs w n = seek-same (cellOk (negsuc 11864549) (pos 11864549) cs 0 w w) (coeffOk true cs) 0 n (λ k l. ap (λ j. scalable (getD cs j (pos 0))) (flat-cell w k))
+
+pub coeff-none : (cs : List ℤ) (n : ℕ) → n ≡ seek (coeffOk false cs) 0 n
+coeff-none cs n = sym (seek-all (coeffOk false cs) 0 n (λ k l. refl) ∙ omega arith)
+
+-- ---- refusals 1 to 4
+pub record Kinds (tx txtp depth : ℕ) : Type 0 where
+  pub from : 8 ≤ depth
+  pub to : depth ≤ 12
+  pub size : tx < 25
+  pub type : txtp ≤ 255
+  pub across : hasKind (wOf tx) (horOf txtp) ≡ true
+  pub down : hasKind (hOf tx) (verOf txtp) ≡ true
+
+module _ (tx txtp depth : ℕ) where
+  pub kinds-passed : (rest : Answer) → kinds tx txtp depth rest .number ≡ 0 → Kinds tx txtp depth × (rest .number ≡ 0)
+  kinds-passed rest e =
+      let a = passed (leb 8 depth && leb depth 12) 0 0 _ e in
+      let b = passed (leb tx 24) 1 0 _ (a .1) in
+      let c = passed (leb txtp 255) 2 0 _ (b .1) in
+      let d = passed (hasKind (wOf tx) (horOf txtp)) 3 0 _ (c .1) in
+      let f = passed (hasKind (hOf tx) (verOf txtp)) 3 1 rest (d .1) in
+      let g = both (leb 8 depth) (leb depth 12) (a .0) in
+      let h = leb-true tx 24 (b .0) in
+      (record { from = leb-true 8 depth (g .0); to = leb-true depth 12 (g .1); size = omega arith; type = leb-true txtp 255 (c .0); across = d .0; down = f .0 }, f .1)
+
+  pub kinds-opens : (rest : Answer) → Kinds tx txtp depth → kinds tx txtp depth rest ≡ rest
+  kinds-opens rest k =
+      let h : tx ≤ 24 = omega (arith, k .size) in
+      rw (le-leb 8 depth (k .from), le-leb depth 12 (k .to), le-leb tx 24 h, le-leb txtp 255 (k .type), k .across, k .down)
+
+  pub kinds-stays : (rest : Answer) → (kinds tx txtp depth done .number ≡ 0 → ⊥) → kinds tx txtp depth done ≡ kinds tx txtp depth rest
+  kinds-stays rest h =
+      sym (stays (leb 8 depth && leb depth 12) (refused 1 0) _ _ h (λ h.
+      stays (leb tx 24) (refused 2 0) _ _ h (λ h.
+      stays (leb txtp 255) (refused 3 0) _ _ h (λ h.
+      stays (hasKind (wOf tx) (horOf txtp)) (refused 4 0) _ _ h (λ h.
+      stays (hasKind (hOf tx) (verOf txtp)) (refused 4 1) done rest h (λ h. absurd (h refl)))))))
+
+-- ---- sides
+sideOk : ℕ → Bool
+sideOk n = leb 4 n && leb n 64
+
+side : {n : ℕ} → T (sideOk n) → (4 ≤ n) × (n ≤ 64)
+unfolding sideOk
+side {n} t = (leb→le 4 n (and-left (leb 4 n) (leb n 64) t), leb→le n 64 (and-right (leb 4 n) (leb n 64) t))
+
+pub sides : (tx : ℕ) → tx < 25 → Sides (wOf tx) (hOf tx)
+unfolding sideOk
+sides tx h =
+    let t = below-at (λ i. sideOk (wOf i) && sideOk (hOf i)) 25 tt tx h in
+    let p = side {n = wOf tx} (and-left (sideOk (wOf tx)) (sideOk (hOf tx)) t) in
+    let q = side {n = hOf tx} (and-right (sideOk (wOf tx)) (sideOk (hOf tx)) t) in
+    record { wide = p .0; narrow = p .1; high = q .0; low = q .1 }
+
+-- ---- rows of a plane
+pub last-row : (h stride w n : ℕ) → (h - 1) * stride + w ≤ n → (r : ℕ) → r < h → r * stride + w ≤ n
+last-row h stride w n fit r l = let q : r ≤ h - 1 = omega arith in omega (arith, N.mul-le-mul-right stride q)
+
+-- ---- refusals 5 to 8: what an answer of Done tells
+pub record Numbers (w h depth : ℕ) (cs p : List ℤ) (stride : ℕ) : Type 0 where
+  pub coefficients : Scalable (scaled w h) (cut w * cut h) cs
+  pub samples : Bounded 4096 w h (gridOf stride p)
+
+pub record Plane (w h depth : ℕ) (dst : List ℤ) (stride : ℕ) (cs : List ℤ) : Type 0 where
+  pub wide : w ≤ stride
+  pub long : cut w * cut h ≤ length cs
+  pub reach : (h - 1) * stride + w ≤ length dst
+  pub all : Numbers w h depth cs dst stride
+
+pub record Buffers (w h depth : ℕ) (room : ℕ) (cs pred : List ℤ) : Type 0 where
+  pub long : cut w * cut h ≤ length cs
+  pub known : h * w ≤ length pred
+  pub space : h * w ≤ room
+  pub all : Numbers w h depth cs pred w
+
+module _ (w h depth : ℕ) (deep : depth ≤ 12) where
+  numbers-passed : (cs p : List ℤ) (stride : ℕ) → numbers w h depth cs p stride .number ≡ 0 → Numbers w h depth cs p stride
+  numbers-passed cs p stride e =
+      let n = cut w * cut h in
+      let cell = cellOk (pos 0) (highest depth) p 0 stride w in
+      let rest = searched 8 (h * w) (cellAt 0 stride w) (seek cell 0 (h * w)) done in
+      let a = search-passed 6 n (λ k. k) (seek (coeffOk (scaled w h) cs) 0 n) rest e in
+      let b = search-passed 7 (h * w) (cellAt 0 stride w) (seek cell 0 (h * w)) done (a .1) in
+      record {
+        coefficients = λ k l s. subst (λ (t : Bool). cond t (scalable (getD cs k (pos 0))) true ≡ true) s (seek-passed (coeffOk (scaled w h) cs) n (a .0) k l);
+        samples = λ r x l m. subst (λ (j : ℕ). natAbs (getD p j (pos 0)) ≤ 4096) (cell-place r m 0 stride ∙ ap (λ n. n + x) (N.zero-add (r * stride)))
+            (in-range-size 4096 (pos 0) (highest depth) (getD p (cellAt 0 stride w (r * w + x)) (pos 0)) zero-le top (seek-passed cell (h * w) (b .0) (r * w + x) (cell-in l m (N.le-refl (h * w)))));
+      }
+    where
+      top : natAbs (highest depth) ≤ 4096
+      top = N.le-trans (highest-size depth) (pow-mono deep)
+
+  plane-passed : (dst : List ℤ) (stride : ℕ) (cs : List ℤ) → onPlane w h depth dst stride cs .number ≡ 0 → Plane w h depth dst stride cs
+  plane-passed dst stride cs e =
+      let a = passed (leb w stride && leb stride 65536) 4 0 _ e in
+      let b = passed (leb (cut w * cut h) (length cs) && leb ((h - 1) * stride + w) (length dst)) 5 0 (numbers w h depth cs dst stride) (a .1) in
+      let c = both (leb w stride) (leb stride 65536) (a .0) in
+      let d = both (leb (cut w * cut h) (length cs)) (leb ((h - 1) * stride + w) (length dst)) (b .0) in
+      record { wide = leb-true w stride (c .0); long = leb-true (cut w * cut h) (length cs) (d .0); reach = leb-true ((h - 1) * stride + w) (length dst) (d .1); all = numbers-passed cs dst stride (b .1) }
+
+  buffers-passed : (room : ℕ) (cs pred : List ℤ) → onBuffers w h depth room cs pred .number ≡ 0 → Buffers w h depth room cs pred
+  buffers-passed room cs pred e =
+      let b = passed (leb (cut w * cut h) (length cs) && (leb (h * w) (length pred) && leb (h * w) room)) 5 0 (numbers w h depth cs pred w) e in
+      let c = both (leb (cut w * cut h) (length cs)) (leb (h * w) (length pred) && leb (h * w) room) (b .0) in
+      let d = both (leb (h * w) (length pred)) (leb (h * w) room) (c .1) in
+      record { long = leb-true (cut w * cut h) (length cs) (c .0); known = leb-true (h * w) (length pred) (d .0); space = leb-true (h * w) room (d .1); all = numbers-passed cs pred w (b .1) }
+
+-- ---- the whole verdicts
+pub add-passed : (dst : List ℤ) (stride : ℕ) (cs : List ℤ) (txtp tx depth : ℕ) → addVerdict dst stride cs txtp tx depth .number ≡ 0 → Kinds tx txtp depth × Plane (wOf tx) (hOf tx) depth dst stride cs
+unfolding addVerdict
+add-passed dst stride cs txtp tx depth e =
+    let k = kinds-passed tx txtp depth (onPlane (wOf tx) (hOf tx) depth dst stride cs) e in
+    (k .0, plane-passed (wOf tx) (hOf tx) depth (k .0 .to) dst stride cs (k .1))
+
+pub float-passed : (room : ℕ) (cs : List ℤ) (txtp tx depth : ℕ) (pred : List ℤ) → floatVerdict room cs txtp tx depth pred .number ≡ 0 → Kinds tx txtp depth × Buffers (wOf tx) (hOf tx) depth room cs pred
+unfolding floatVerdict
+float-passed room cs txtp tx depth pred e =
+    let k = kinds-passed tx txtp depth (onBuffers (wOf tx) (hOf tx) depth room cs pred) e in
+    (k .0, buffers-passed (wOf tx) (hOf tx) depth (k .0 .to) room cs pred (k .1))
+
+-- an accepted block is ready for the passes
+pub ready : {tx txtp depth : ℕ} {cs : List ℤ} → Kinds tx txtp depth → cut (wOf tx) * cut (hOf tx) ≤ length cs → Scalable (scaled (wOf tx) (hOf tx)) (cut (wOf tx) * cut (hOf tx)) cs → Ready tx txtp depth cs
+ready {tx} k l s = record { across = k .across; down = k .down; shift = shifts tx (k .size) .0; deep = k .to; long = l; range = s }
