@@ -2,3 +2,4 @@
 pub mod Pixels
 pub mod Rows
 pub mod Calls
+pub mod Cases
