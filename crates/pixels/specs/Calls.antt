@@ -2,14 +2,15 @@
 --     kinds          refusals 1 to 4: depth, size number, type number, a kind that its length doesn't have
 --     numbers        refusals 7 and 8: a coefficient out of range, a prediction or present sample out of range
 --     onPlane, addVerdict, addOf           the add call: refusals 5 to 8, its answer, the whole call
---     onBuffers, floatVerdict, floatOf     the float call: refusals 6 to 8, its answer, the whole call
-use mathlib.Core.Bool.{Bool, true, _&&_, cond}
+--     onBuffers, floatVerdict, floatOf     the float call: refusals 6 to 8, its answer, the whole call; Exact: the numbers of its block are the pixels, exactly
+use mathlib.Core.Bool.{Bool, true, false, _&&_, cond}
 use mathlib.Core.List.{List}
-use Prim.Native.Nat.{ℕ, _+_, _*_, _-_, _/_, _%_, _≤_}
+use Prim.Native.Nat.{ℕ, _+_, _*_, _-_, _/_, _%_, _≤_, _<_}
 use lib.Dec.{leb}
 use lib.Ieee
 use lib.Ieee.{Float}
-use lib.IntN.{ℤ, pos}
+use lib.Ieee.Exact.{HasValue}
+use lib.IntN.{ℤ, pos, natAbs}
 use lib.ListN.{length, getD}
 use Rattle.whole.specs.Numbers.{highest}
 use Rattle.whole.specs.Sums.{tab}
@@ -103,3 +104,8 @@ filled out cs txtp tx depth pred = filledBy (wOf tx) (hOf tx) depth (residualAt 
 unfoldable pub floatOf : List Float → List ℤ → ℕ → ℕ → ℕ → List ℤ → Answer × List Float
 unfolding floatVerdict passesOf pixelF
 floatOf out cs txtp tx depth pred = ends (floatVerdict (length out) cs txtp tx depth pred) out (filled out cs txtp tx depth pred)
+
+-- number i of the block is finite, not negative, and in size the pixel over 1
+abbrev pub Exact : List Float → List ℤ → ℕ → ℕ → ℕ → List ℤ → Type 0
+Exact out cs txtp tx depth pred =
+    (i : ℕ) → i < hOf tx * wOf tx → HasValue (getD out i (pixelF (pos 0))) false (natAbs (pixelOf depth (getD pred i (pos 0)) (residualAt tx txtp depth cs (i / wOf tx) (i % wOf tx)))) 1

@@ -6,7 +6,8 @@ ghost use lib.ListN.{length};
 ghost use Rattle.whole.specs.Grid.{gridOf, Same};
 ghost use Rattle.passes.specs.Passes.{swOf, shOf, Ready};
 ghost use Rattle.pixels.specs.Pixels.{residualOf};
-ghost use Rattle.pixels.specs.Calls.{addOf, floatOf};
+ghost use Rattle.answers.specs.declared.Answer.{Answer};
+ghost use Rattle.pixels.specs.Calls.{addOf, floatOf, Exact};
 use answers::Answer;
 
 // The residuals of an accepted block, in the work area.
@@ -52,6 +53,7 @@ pub fn recon(
     four: bool,
 ) -> Answer
     ensures { λ r. ⌜ (r, now (out .exit)) ≡ floatOf (now (out .entry)) (now (coeff .entry)) txtp tx bd (now (pred .entry)) ⌝ }
+    ensures { λ r. ⌜ (r .number ≡ 0 → Exact (now (out .exit)) (now (coeff .entry)) txtp tx bd (now (pred .entry))) ⌝ }
 {
     let a = crate::judge::judge_float(out.len(), coeff, txtp, tx, bd, pred);
     if a.number != 0 {

@@ -1,6 +1,7 @@
 // From coefficients to pixels: the two calls, each in a form of one lane and a form of four.
 ghost use mathlib.Core.Path.{_≡_};
-ghost use Rattle.pixels.specs.Calls.{addOf, floatOf};
+ghost use Rattle.answers.specs.declared.Answer.{Answer};
+ghost use Rattle.pixels.specs.Calls.{addOf, floatOf, Exact};
 
 pub mod calls;
 pub mod judge;
@@ -47,6 +48,7 @@ pub fn inv_txfm_recon_f32(
     pred: &[i32],
 ) -> Answer
     ensures { λ r. ⌜ (r, now (out .exit)) ≡ floatOf (now (out .entry)) (now (coeff .entry)) txtp tx bd (now (pred .entry)) ⌝ }
+    ensures { λ r. ⌜ (r .number ≡ 0 → Exact (now (out .exit)) (now (coeff .entry)) txtp tx bd (now (pred .entry))) ⌝ }
 {
     calls::recon(out, coeff, txtp, tx, bd, pred, false)
 }
@@ -61,6 +63,7 @@ pub fn inv_txfm_recon_f32_lanes(
     pred: &[i32],
 ) -> Answer
     ensures { λ r. ⌜ (r, now (out .exit)) ≡ floatOf (now (out .entry)) (now (coeff .entry)) txtp tx bd (now (pred .entry)) ⌝ }
+    ensures { λ r. ⌜ (r .number ≡ 0 → Exact (now (out .exit)) (now (coeff .entry)) txtp tx bd (now (pred .entry))) ⌝ }
 {
     calls::recon(out, coeff, txtp, tx, bd, pred, true)
 }

@@ -20,6 +20,7 @@ use Rattle.passes.proofs.Steps.{area}
 use Rattle.pixels.specs.Pixels.{repeated, residualAt, pixelOf, pixelF}
 use Rattle.pixels.specs.Calls.{wOf, hOf, Sides, floatVerdict, filledBy, filled, floatOf}
 use Rattle.pixels.proofs.Judging.{Kinds, Buffers, float-passed, ready, sides}
+use Rattle.pixels.proofs.Floats.{exact-call}
 use Rattle.pixels.proofs.Served.{residual-bounded, residual-served, block-same}
 use Rattle.pixels.proofs.calls.recon.Statement.{statement}
 use Rattle.pixels.proofs.calls.recon.Tie as tie
@@ -45,8 +46,9 @@ returns c =
     let j = c .before .before in
     let s = j .before .before in
     let a = floatVerdict (length (s .args .out .now)) (s .args .coeff .now) (s .args .txtp) (s .args .tx) (s .args .bd) (s .args .pred .now) in
-    ap (λ (z : Answer). (z, s .args .out .now)) (j .judge-float .ensures)
-    ∙ sym (kept a (s .args .out .now) (filled (s .args .out .now) (s .args .coeff .now) (s .args .txtp) (s .args .tx) (s .args .bd) (s .args .pred .now)) (λ e. c .if1 .taken (ap (λ (z : Answer). z .number) (j .judge-float .ensures) ∙ e)))
+    let e = ap (λ (z : Answer). (z, s .args .out .now)) (j .judge-float .ensures)
+    ∙ sym (kept a (s .args .out .now) (filled (s .args .out .now) (s .args .coeff .now) (s .args .txtp) (s .args .tx) (s .args .bd) (s .args .pred .now)) (λ e. c .if1 .taken (ap (λ (z : Answer). z .number) (j .judge-float .ensures) ∙ e))) in
+    (e, exact-call (s .args .out .now) (s .args .coeff .now) (s .args .txtp) (s .args .tx) (s .args .bd) (s .args .pred .now) (j .judge-float .result) (s .args .out .now) e)
 
 slice-aggregate-residuals : tie.Need-slice-aggregate-residuals
 slice-aggregate-residuals c = search needs
@@ -90,13 +92,15 @@ returns-2 c =
     let w = wOf (s .args .tx) in
     let h = hOf (s .args .tx) in
     let made = filled (s .args .out .now) (s .args .coeff .now) (s .args .txtp) (s .args .tx) (s .args .bd) (s .args .pred .now) in
+    let whole =
     ap (λ (t : List Float). (j .judge-float .result, t))
     (b .fill-block .ensures ∙ ap (λ (q : Size). filledBy (q .w) (q .h) (s .args .bd) (repeated (q .w) (q .h) (gridOf (cut (q .w)) (r .residuals .last .0))) (s .args .out .now) (s .args .pred .now)) (z .size-of .ensures)
     ∙ block-same w w h (length (s .args .out .now)) (λ i d. pixelF (pixelOf (s .args .bd) (getD (s .args .pred .now) i (pos 0)) d)) (λ i. getD (s .args .out .now) i (pixelF (pos 0)))
     (repeated w h (gridOf (cut w) (r .residuals .last .0))) (residualAt (s .args .tx) (s .args .txtp) (s .args .bd) (s .args .coeff .now))
     (residual-served (s .args .tx) (s .args .txtp) (s .args .bd) (s .args .coeff .now) (r .residuals .last .0) (r .residuals .ensures) (sides (s .args .tx) (p .0 .size))))
     ∙ ap (λ (q : Answer). (q, made)) (j .judge-float .ensures)
-    ∙ sym (taken a (s .args .out .now) made (ap (λ (q : Answer). q .number) (sym (j .judge-float .ensures)) ∙ e .if1 .left))
+    ∙ sym (taken a (s .args .out .now) made (ap (λ (q : Answer). q .number) (sym (j .judge-float .ensures)) ∙ e .if1 .left)) in
+    (whole, exact-call (s .args .out .now) (s .args .coeff .now) (s .args .txtp) (s .args .tx) (s .args .bd) (s .args .pred .now) (j .judge-float .result) (b .fill-block .last .0) whole)
 
 pub recon-spec : {M : Type 1} → statement M
 recon-spec =
