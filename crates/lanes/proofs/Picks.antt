@@ -1,0 +1,51 @@
+-- The match over length and code: a kernel of a known length and code is the one that was asked for. For any record: `at r k` is number k of r. Assumes nothing.
+--     pick-asks            the bound on the inputs, at the known length
+--     pick-gives           the kernel's promise, at the length and the code that were asked for
+--     highest-code         the codes of a known length
+--     long, long-rest      a length that is neither 4, 8 nor 16; of its kinds besides the DCT there is the identity of 32
+use mathlib.Core.Path.{_≡_, refl, sym, ap, _∙_, subst}
+use mathlib.Core.Bool.{true}
+use mathlib.Core.List.{List}
+use Prim.Native.Nat.{ℕ, _^_, _≤_}
+use native.Mathlib.Omega.{arith}
+use borrow.Author.Tests.{leb-true}
+use lib.Dec.{leb}
+use lib.IntN.{ℤ}
+use lib.ListN.{take}
+use Rattle.whole.specs.Sums.{Within}
+use Rattle.whole.specs.Lanes.{col}
+use Rattle.tables.specs.Sizes.{cut}
+use Rattle.tables.specs.Kinds.{hasKind}
+use Rattle.tables.specs.Dense.{denseOf}
+use Rattle.tables.proofs.Kernels.{Length, n4, n8, n16, n32, n64, lengths}
+
+module _ {R : Type 0} (at : R → ℕ → ℤ) (ls : List R) where
+  pub pick-asks : {n m : ℕ} → n ≡ m → ((k : ℕ) → Within (2 ^ 19) (take (cut n) (col at k ls))) → (k : ℕ) → Within (2 ^ 19) (take (cut m) (col at k ls))
+  pick-asks e w k = subst (λ (j : ℕ). Within (2 ^ 19) (take (cut j) (col at k ls))) e (w k)
+
+  pub pick-gives : (rs : List R) {n m code d : ℕ} → n ≡ m → code ≡ d
+      → ((k : ℕ) → take (cut m) (col at k rs) ≡ denseOf m d (take (cut m) (col at k ls)))
+      → (k : ℕ) → take (cut n) (col at k rs) ≡ denseOf n code (take (cut n) (col at k ls))
+  pick-gives rs {n} {m} {code} {d} e f h k =
+      subst (λ (j : ℕ). take (cut j) (col at k rs) ≡ denseOf j code (take (cut j) (col at k ls))) (sym e)
+      (h k ∙ ap (λ z. denseOf m z (take (cut m) (col at k ls))) (sym f))
+
+-- ---- lengths and codes
+module _ (n code : ℕ) (h : hasKind n code ≡ true) where
+  pub highest-code : (m top : ℕ) → n ≡ m → hasKind m code ≡ leb code top → code ≤ top
+  highest-code m top e f = leb-true code top (sym f ∙ subst (λ (j : ℕ). hasKind j code ≡ true) e h)
+
+  -- what holds of 32 and of 64 holds of a length that is neither 4, 8 nor 16
+  module _ (a : n ≡ 4 → ⊥) (b : n ≡ 8 → ⊥) (c : n ≡ 16 → ⊥) where
+    pub long : (P : ℕ → Type 0) → P 32 → P 64 → P n
+    long P x y = go (lengths n code h .0) a b c
+      where
+        go : {m : ℕ} → Length m → (m ≡ 4 → ⊥) → (m ≡ 8 → ⊥) → (m ≡ 16 → ⊥) → P m
+        go n4 p q r = absurd (p refl)
+        go n8 p q r = absurd (q refl)
+        go n16 p q r = absurd (r refl)
+        go n32 p q r = x
+        go n64 p q r = y
+
+    pub long-rest : (code ≡ 0 → ⊥) → (n ≡ 32) × (code ≡ 1)
+    long-rest z = long (λ m. hasKind m code ≡ true → (m ≡ 32) × (code ≡ 1)) (λ k. (refl, omega (arith, leb-true code 1 k))) (λ k. absurd (z (omega (arith, leb-true code 0 k)))) h

@@ -1,0 +1,21 @@
+-- `lanes::dst::g_adst4` meets its contract: its table's rows have room. Assumes nothing.
+use mathlib.Core.Path.{refl}
+use lib.Dec.{lit<, lit≤}
+use borrow.Author.Needs.{needs}
+use Rattle.whole.proofs.Parts.{rows-light}
+use Rattle.tables.specs.Dst.{adst4}
+use Rattle.tables.proofs.Rules.{dst-sizes}
+use Rattle.lanes.proofs.dst.g_adst4.Statement.{statement}
+use Rattle.lanes.proofs.dst.g_adst4.Tie as tie
+
+slice-aggregate-g-dst : tie.Need-slice-aggregate-g-dst
+slice-aggregate-g-dst c = search needs
+
+g-dst-requires : tie.Need-g-dst-requires
+g-dst-requires c κs = ((lit≤ tt, refl, rows-light 4 adst4 (dst-sizes .0) (lit< tt)), c .before .pre)
+
+returns : tie.Need-returns
+returns c = c .g-dst .ensures
+
+pub g-adst4-spec : {M : Type 1} → statement M
+g-adst4-spec = tie.close (tie.spec slice-aggregate-g-dst g-dst-requires returns)

@@ -1,0 +1,103 @@
+-- What the refusals 1, 5, 6 and 7 leave for the rest of a call. Assumes nothing.
+--     stops1, is5, is6, is7       the front by its tests, one after the other
+--     Fine, fine, front-done      the tests pass exactly where the front's answer is Done
+--     depth-is, stride-is, fit-is the tests as facts on numbers
+--     lies                        the block's indices lie in the plane, and no two are the same
+use mathlib.Core.Path.{_≡_, sym, _∙_, subst}
+use mathlib.Core.Bool.{true, false, _&&_}
+use Prim.Native.Nat.{ℕ, _+_, _*_, _≤_, _<_}
+use native.Mathlib.Nat as N
+use native.Mathlib.Omega.{arith}
+use borrow.Author.Tests.{leb-true, eqb-true, eq-eqb}
+use lib.Dec.{leb, eqb, lit≤}
+use lib.IntN.{pos, negsuc}
+use lib.ListN.{length}
+use Rattle.answers.specs.declared.Answer.{Answer}
+use Rattle.answers.specs.Answers.{done, refused, unless}
+use Rattle.answers.proofs.Verdicts.{passed, opens, stops, search-passed, search-opens}
+use Rattle.whole.specs.Search.{seek}
+use Rattle.whole.proofs.Cells.{cell-apart}
+use Rattle.whole.proofs.Range.{size-in-range}
+use Rattle.whole.proofs.Search.{seek-all}
+use Rattle.whole.proofs.Tests.{both, and-true}
+use Rattle.wht.specs.Calls.{Sixteen, numberOk, outside}
+use Rattle.wht.proofs.Lists.{all-small}
+use Rattle.lossless.specs.Gains.{numbers, Lies}
+use Rattle.lossless.specs.Step.{Where, Step, spot, deep, strides, fits, front}
+use Rattle.lossless.proofs.Adding.{cell-lies}
+
+pub record Fine (n : ℕ) (s : Step) : Type 0 where
+  pub depths : deep (s .at) ≡ true
+  pub wide : strides (s .at) ≡ true
+  pub fit : fits (s .at) n ≡ true
+  pub levels : Sixteen 262144 (s .levels)
+
+module _ (n : ℕ) (s : Step) where
+  -- what follows the tests of 1, 5 and 6
+  abbrev pub from7 : Answer
+  from7 = outside (negsuc 262143) (pos 262144) (s .levels) done
+
+  abbrev pub from6 : Answer
+  from6 = unless (fits (s .at) n && eqb (length (s .levels)) 16) (refused 6 0) from7
+
+  abbrev pub from5 : Answer
+  from5 = unless (strides (s .at)) (refused 5 0) from6
+
+  pub stops1 : deep (s .at) ≡ false → front n s ≡ refused 1 0
+  unfolding front
+  stops1 e = stops (refused 1 0) from5 e
+
+  pub is5 : deep (s .at) ≡ true → front n s ≡ from5
+  unfolding front
+  is5 e = opens (refused 1 0) from5 e
+
+  pub is6 : deep (s .at) ≡ true → strides (s .at) ≡ true → front n s ≡ from6
+  is6 d e = is5 d ∙ opens (refused 5 0) from6 e
+
+  pub is7 : deep (s .at) ≡ true → strides (s .at) ≡ true → fits (s .at) n ≡ true → length (s .levels) ≡ 16 → front n s ≡ from7
+  is7 d t e c = is6 d t ∙ opens (refused 6 0) from7 (and-true e (eq-eqb (length (s .levels)) 16 c))
+
+  pub fine : front n s .number ≡ 0 → Fine n s
+  unfolding front
+  fine e =
+      let a = passed (deep (s .at)) 0 0 from5 e in
+      let b = passed (strides (s .at)) 4 0 from6 (a .1) in
+      let c = passed (fits (s .at) n && eqb (length (s .levels)) 16) 5 0 from7 (b .1) in
+      let m = both (fits (s .at) n) (eqb (length (s .levels)) 16) (c .0) in
+      let d = search-passed 6 16 (λ k. k) (seek (numberOk (negsuc 262143) (pos 262144) (s .levels)) 0 16) done (c .1) in
+      record {
+        depths = a .0;
+        wide = b .0;
+        fit = m .0;
+        levels = all-small 262144 (negsuc 262143) (pos 262144) (lit≤ tt) (lit≤ tt) (s .levels) (eqb-true (length (s .levels)) 16 (m .1)) (d .0);
+      }
+
+  pub front-done : Fine n s → front n s ≡ done
+  front-done f =
+      is7 (f .depths) (f .wide) (f .fit) (f .levels .count)
+      ∙ search-opens 7 16 (λ k. k) (seek (numberOk (negsuc 262143) (pos 262144) (s .levels)) 0 16) done (N.le-of-eq (sym (seek-all _ 0 16 good)))
+    where
+      good : (k : ℕ) → k < 16 → numberOk (negsuc 262143) (pos 262144) (s .levels) k ≡ true
+      good k h = size-in-range 262143 (numbers (s .levels) k) (f .levels .small k (subst (λ (m : ℕ). k < m) (sym (f .levels .count)) h))
+
+module _ (w : Where) where
+  pub depth-is : deep w ≡ true → (8 ≤ w .depth) × (w .depth ≤ 12)
+  depth-is e = let t = both (leb 8 (w .depth)) (leb (w .depth) 12) e in (leb-true 8 (w .depth) (t .0), leb-true (w .depth) 12 (t .1))
+
+  pub stride-is : strides w ≡ true → (4 ≤ w .stride) × (w .stride ≤ 65536)
+  stride-is e = let t = both (leb 4 (w .stride)) (leb (w .stride) 65536) e in (leb-true 4 (w .stride) (t .0), leb-true (w .stride) 65536 (t .1))
+
+  pub fit-is : (n : ℕ) → fits w n ≡ true → w .row * w .stride + w .column + 3 * w .stride + 4 ≤ n
+  fit-is n e =
+      let end = (w .row + 3) * w .stride + w .column + 4 in
+      let r = both (leb (w .row) 65535) (leb (w .column + 4) (w .stride) && leb end n) e in
+      let t = both (leb (w .column + 4) (w .stride)) (leb end n) (r .1) in
+      omega (arith, leb-true end n (t .1), N.add-mul (w .row) 3 (w .stride))
+
+pub lies : {n : ℕ} {s : Step} → Fine n s → Lies (spot (s .at)) n
+lies {n} {s} f =
+    let start = s .at .row * s .at .stride + s .at .column in
+    record {
+      inside = λ k h. cell-lies start (s .at .stride) n (fit-is (s .at) n (f .fit)) k h;
+      apart = λ j k h i. cell-apart start (s .at .stride) 4 (lit≤ tt) (stride-is (s .at) (f .wide) .0) j k;
+    }

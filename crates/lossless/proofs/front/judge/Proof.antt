@@ -1,0 +1,132 @@
+-- `lossless::front::judge` meets its contract: the tests in their order. Assumes nothing.
+use mathlib.Core.Path.{_≡_, sym, ap, _∙_, subst}
+use mathlib.Core.Bool.{true, _&&_}
+use Prim.Native.Nat.{ℕ, _≤_, _<_}
+use borrow.Author.Tests.{not-true, not-false, ne-eqb}
+use lib.Dec.{eqb}
+use lib.IntN.{pos, negsuc}
+use lib.ListN.{length}
+use Rattle.answers.specs.Answers.{done, refused}
+use Rattle.answers.proofs.Verdicts.{stops, search-opens, search-stops}
+use Rattle.whole.specs.Search.{seek}
+use Rattle.wht.specs.Calls.{numberOk}
+use Rattle.lossless.specs.Step.{Step, attempt, deep, strides, fits, front}
+use Rattle.lossless.proofs.Arguments.{from6, from7, stops1, is5, is6, is7, stride-is}
+use borrow.Author.Needs.{needs}
+use Rattle.lossless.proofs.front.judge.Statement.{statement}
+use Rattle.lossless.proofs.front.judge.Tie as tie
+
+-- the arguments, and what the calls say of them
+abbrev S : tie.Start → Step
+S s = attempt (s .args .depth) (s .args .stride) (s .args .row) (s .args .column) (s .args .level .now)
+
+depths : (c : tie.Else1) → deep (S (c .before .before) .at) ≡ true
+depths c = sym (c .before .between .ensures) ∙ not-false _ (c .if1 .left)
+
+wide : (c : tie.Else2) → strides (S (c .before .before .before .before) .at) ≡ true
+wide c = sym (c .before .between2 .ensures) ∙ not-false _ (c .if2 .left)
+
+then6 : (c : tie.Else2) → let s = c .before .before .before .before in front (s .args .n) (S s) ≡ from6 (s .args .n) (S s)
+then6 c = let s = c .before .before .before .before in is6 (s .args .n) (S s) (depths (c .before .before)) (wide c)
+
+fit : (c : tie.Else3) → let s = c .before .before .before .before .before .before in fits (S s .at) (s .args .n) ≡ true
+fit c = sym (c .before .block-fits .ensures) ∙ not-false _ (c .if3 .left)
+
+then7 : (c : tie.Else4) → let s = c .before .before .before .before .before .before .before in front (s .args .n) (S s) ≡ from7 (s .args .n) (S s)
+then7 c =
+    let e = c .before .before .before in
+    let s = e .before .before .before .before in
+    is7 (s .args .n) (S s) (depths (e .before .before)) (wide e) (fit (c .before)) (c .if4 .left)
+
+abbrev Found : tie.After-first-bad → ℕ
+Found c = seek (numberOk (negsuc 262143) (pos 262144) (c .before .before .before .before .before .before .before .before .args .level .now)) 0 16
+
+between-requires : tie.Need-between-requires
+between-requires c κs = search needs
+
+refusal-requires : tie.Need-refusal-requires
+refusal-requires c κs = search needs
+
+returns : tie.Need-returns
+returns c =
+    let d = c .before .before in
+    let s = d .before in
+    c .refusal .ensures ∙ sym (stops1 (s .args .n) (S s) (sym (d .between .ensures) ∙ not-true _ (c .before .if1 .taken)))
+
+between-requires-2 : tie.Need-between-requires-2
+between-requires-2 c κs = search needs
+
+refusal-requires-2 : tie.Need-refusal-requires-2
+refusal-requires-2 c κs = search needs
+
+returns-2 : tie.Need-returns-2
+returns-2 c =
+    let d = c .before .before in
+    let e = d .before in
+    let s = e .before .before in
+    c .refusal2 .ensures ∙ sym (is5 (s .args .n) (S s) (depths e) ∙ stops (refused 5 0) (from6 (s .args .n) (S s)) (sym (d .between2 .ensures) ∙ not-true _ (c .before .if2 .taken)))
+
+block-fits-requires : tie.Need-block-fits-requires
+block-fits-requires c κs = stride-is (S (c .before .before .before .before) .at) (wide c)
+
+refusal-requires-3 : tie.Need-refusal-requires-3
+refusal-requires-3 c κs = search needs
+
+returns-3 : tie.Need-returns-3
+returns-3 c =
+    let d = c .before .before in
+    let s = d .before .before .before .before .before in
+    c .refusal3 .ensures
+    ∙ sym (then6 (d .before) ∙ stops (refused 6 0) (from7 (s .args .n) (S s)) (ap (λ b. b && eqb (length (s .args .level .now)) 16) (sym (d .block-fits .ensures) ∙ not-true _ (c .before .if3 .taken))))
+
+refusal-requires-4 : tie.Need-refusal-requires-4
+refusal-requires-4 c κs = search needs
+
+returns-4 : tie.Need-returns-4
+returns-4 c =
+    let f = c .before .before in
+    let s = f .before .before .before .before .before .before in
+    c .refusal4 .ensures
+    ∙ sym (then6 (f .before .before) ∙ stops (refused 6 0) (from7 (s .args .n) (S s)) (ap (λ b. b && eqb (length (s .args .level .now)) 16) (fit f) ∙ ne-eqb (length (s .args .level .now)) 16 (c .before .if4 .taken)))
+
+first-bad-requires : tie.Need-first-bad-requires
+first-bad-requires c κs = search needs
+
+refusal-requires-5 : tie.Need-refusal-requires-5
+refusal-requires-5 c κs = search needs
+
+returns-5 : tie.Need-returns-5
+returns-5 c =
+    let b = c .before .before in
+    c .refusal5 .ensures ∙ ap (λ k. refused 7 k) (b .first-bad .ensures)
+    ∙ sym (then7 (b .before) ∙ search-stops 7 16 (λ k. k) (Found b) done (subst (λ (k : ℕ). k < 16) (b .first-bad .ensures) (c .before .if5 .taken)))
+
+finished-requires : tie.Need-finished-requires
+finished-requires c κs = search needs
+
+returns-6 : tie.Need-returns-6
+returns-6 c =
+    let b = c .before .before in
+    c .finished .ensures
+    ∙ sym (then7 (b .before) ∙ search-opens 7 16 (λ k. k) (Found b) done (subst (λ (k : ℕ). 16 ≤ k) (b .first-bad .ensures) (c .before .if5 .left)))
+
+pub judge-spec : {M : Type 1} → statement M
+judge-spec =
+    tie.close
+    (tie.spec
+    between-requires
+    refusal-requires
+    returns
+    between-requires-2
+    refusal-requires-2
+    returns-2
+    block-fits-requires
+    refusal-requires-3
+    returns-3
+    refusal-requires-4
+    returns-4
+    first-bad-requires
+    refusal-requires-5
+    returns-5
+    finished-requires
+    returns-6)

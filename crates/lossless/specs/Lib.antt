@@ -1,0 +1,8 @@
+-- The lossless step: Gains (samples that gain numbers), Step (the calls), History and Wanted (what is claimed of steps), Cases;
+-- Bounds serves the internal functions.
+pub mod Gains
+pub mod Step
+pub mod Bounds
+pub mod History
+pub mod Wanted
+pub mod Cases

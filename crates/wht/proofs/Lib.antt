@@ -1,0 +1,7 @@
+-- What holds of the two transforms: Butterfly (as expressions), Inverse (each undoes the other), Size (how large their results are),
+-- Lists (what an answer of Done tells), Outcomes (a promise allows one outcome).
+pub mod Butterfly
+pub mod Inverse
+pub mod Size
+pub mod Lists
+pub mod Outcomes
