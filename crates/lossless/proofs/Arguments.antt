@@ -10,7 +10,7 @@ use native.Mathlib.Nat as N
 use native.Mathlib.Omega.{arith}
 use borrow.Author.Tests.{leb-true, eqb-true, eq-eqb}
 use lib.Dec.{leb, eqb, lit≤}
-use lib.IntN.{pos, negsuc}
+use lib.IntN.{pos, negℤ}
 use lib.ListN.{length}
 use Rattle.answers.specs.declared.Answer.{Answer}
 use Rattle.answers.specs.Answers.{done, refused, unless}
@@ -35,7 +35,7 @@ pub record Fine (n : ℕ) (s : Step) : Type 0 where
 module _ (n : ℕ) (s : Step) where
   -- what follows the tests of 1, 5 and 6
   abbrev pub from7 : Answer
-  from7 = outside (negsuc 262143) (pos 262144) (s .levels) done
+  from7 = outside (negℤ (pos 262144)) (pos 262144) (s .levels)
 
   abbrev pub from6 : Answer
   from6 = unless (fits (s .at) n && eqb (length (s .levels)) 16) (refused 6 0) from7
@@ -64,20 +64,20 @@ module _ (n : ℕ) (s : Step) where
       let b = passed (strides (s .at)) 4 0 from6 (a .1) in
       let c = passed (fits (s .at) n && eqb (length (s .levels)) 16) 5 0 from7 (b .1) in
       let m = both (fits (s .at) n) (eqb (length (s .levels)) 16) (c .0) in
-      let d = search-passed 6 16 (λ k. k) (seek (numberOk (negsuc 262143) (pos 262144) (s .levels)) 0 16) done (c .1) in
+      let d = search-passed 6 16 (λ k. k) (seek (numberOk (negℤ (pos 262144)) (pos 262144) (s .levels)) 0 16) done (c .1) in
       record {
         depths = a .0;
         wide = b .0;
         fit = m .0;
-        levels = all-small 262144 (negsuc 262143) (pos 262144) (lit≤ tt) (lit≤ tt) (s .levels) (eqb-true (length (s .levels)) 16 (m .1)) (d .0);
+        levels = all-small 262144 (negℤ (pos 262144)) (pos 262144) (lit≤ tt) (lit≤ tt) (s .levels) (eqb-true (length (s .levels)) 16 (m .1)) (d .0);
       }
 
   pub front-done : Fine n s → front n s ≡ done
   front-done f =
       is7 (f .depths) (f .wide) (f .fit) (f .levels .count)
-      ∙ search-opens 7 16 (λ k. k) (seek (numberOk (negsuc 262143) (pos 262144) (s .levels)) 0 16) done (N.le-of-eq (sym (seek-all _ 0 16 good)))
+      ∙ search-opens 7 16 (λ k. k) (seek (numberOk (negℤ (pos 262144)) (pos 262144) (s .levels)) 0 16) done (N.le-of-eq (sym (seek-all _ 0 16 good)))
     where
-      good : (k : ℕ) → k < 16 → numberOk (negsuc 262143) (pos 262144) (s .levels) k ≡ true
+      good : (k : ℕ) → k < 16 → numberOk (negℤ (pos 262144)) (pos 262144) (s .levels) k ≡ true
       good k h = size-in-range 262143 (numbers (s .levels) k) (f .levels .small k (subst (λ (m : ℕ). k < m) (sym (f .levels .count)) h))
 
 module _ (w : Where) where

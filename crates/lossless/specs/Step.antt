@@ -8,10 +8,10 @@ use mathlib.Core.Bool.{Bool, _&&_}
 use mathlib.Core.List.{List, map}
 use Prim.Native.Nat.{ℕ, _+_, _*_}
 use lib.Dec.{leb, eqb}
-use lib.IntN.{ℤ, pos, negsuc, negℤ}
+use lib.IntN.{ℤ, pos, negℤ}
 use lib.ListN.{length}
 use Rattle.answers.specs.declared.Answer.{Answer}
-use Rattle.answers.specs.Answers.{done, refused, unless}
+use Rattle.answers.specs.Answers.{refused, unless}
 use Rattle.whole.specs.Numbers.{inRange, highest}
 use Rattle.whole.specs.Search.{cellAt}
 use Rattle.wht.specs.Wht.{iwht}
@@ -51,13 +51,12 @@ strides w = leb 4 (w .stride) && leb (w .stride) 65536
 abbrev pub fits : Where → ℕ → Bool
 fits w n = leb (w .row) 65535 && (leb (w .column + 4) (w .stride) && leb ((w .row + 3) * w .stride + w .column + 4) n)
 
--- the levels go from -262,144 to 262,144
 unfoldable pub front : ℕ → Step → Answer
 front n s =
     unless (deep (s .at)) (refused 1 0)
     (unless (strides (s .at)) (refused 5 0)
     (unless (fits (s .at) n && eqb (length (s .levels)) 16) (refused 6 0)
-    (outside (negsuc 262143) (pos 262144) (s .levels) done)))
+    (outside (negℤ (pos 262144)) (pos 262144) (s .levels))))
 
 -- ---- the calls
 abbrev pub gainOf : List ℤ → Step → (ℕ → ℤ) → Answer × List ℤ

@@ -30,7 +30,7 @@ module _ (B : ℕ) (lo hi : ℤ) (low : natAbs lo ≤ B) (high : natAbs hi ≤ B
 
   pub accepted : (n : ℕ) → verdict lo hi l n .number ≡ 0 → Sixteen B l × (n ≡ 16)
   accepted n e =
-      let p = passed (eqb (length l) 16 && eqb n 16) 5 0 (outside lo hi l done) e in
+      let p = passed (eqb (length l) 16 && eqb n 16) 5 0 (outside lo hi l) e in
       let m = both (eqb (length l) 16) (eqb n 16) (p .0) in
       let q = search-passed 6 16 (λ k. k) (seek (numberOk lo hi l) 0 16) done (p .1) in
       (all-small (eqb-true (length l) 16 (m .0)) (q .0), eqb-true n 16 (m .1))

@@ -1,6 +1,7 @@
 -- The two transforms as calls on lent slices. Definitions only; from document 01, "Refusal numbers".
 --     numberOk lo hi l k       number k of l lies in lo .. hi
---     verdict lo hi l n        6 unless l and the slice to write both have sixteen numbers, 7 at the first number of l outside lo .. hi
+--     outside lo hi l          refusal 7 at the first of sixteen numbers outside lo .. hi
+--     verdict lo hi l n        6 unless l and the slice to write both have sixteen numbers, then 7
 --     fwhtOf, iwhtOf           the answer, and what the slice to write holds then
 --     Sixteen B l              what an accepted list is: sixteen numbers of size at most B
 use mathlib.Core.Path.{_≡_}
@@ -8,7 +9,7 @@ use mathlib.Core.Bool.{Bool, _&&_}
 use mathlib.Core.List.{List}
 use Prim.Native.Nat.{ℕ}
 use lib.Dec.{eqb}
-use lib.IntN.{ℤ, pos, negsuc}
+use lib.IntN.{ℤ, pos, negℤ}
 use lib.ListN.{length, getD}
 use Rattle.answers.specs.declared.Answer.{Answer}
 use Rattle.answers.specs.Answers.{done, refused, unless, searched, ends}
@@ -20,19 +21,17 @@ use Rattle.wht.specs.Wht.{fwht, iwht}
 abbrev pub numberOk : ℤ → ℤ → List ℤ → ℕ → Bool
 numberOk lo hi l k = inRange lo hi (getD l k (pos 0))
 
-abbrev pub outside : ℤ → ℤ → List ℤ → Answer → Answer
-outside lo hi l rest = searched 7 16 (λ k. k) (seek (numberOk lo hi l) 0 16) rest
+abbrev pub outside : ℤ → ℤ → List ℤ → Answer
+outside lo hi l = searched 7 16 (λ k. k) (seek (numberOk lo hi l) 0 16) done
 
 abbrev pub verdict : ℤ → ℤ → List ℤ → ℕ → Answer
-verdict lo hi l n = unless (eqb (length l) 16 && eqb n 16) (refused 6 0) (outside lo hi l done)
+verdict lo hi l n = unless (eqb (length l) 16 && eqb n 16) (refused 6 0) (outside lo hi l)
 
--- residuals from -65,535 to 65,535
 unfoldable pub fwhtOf : List ℤ → List ℤ → Answer × List ℤ
-fwhtOf resid level = ends (verdict (negsuc 65534) (pos 65535) resid (length level)) level (fwht resid)
+fwhtOf resid level = ends (verdict (negℤ (pos 65535)) (pos 65535) resid (length level)) level (fwht resid)
 
--- levels from -262,144 to 262,144
 unfoldable pub iwhtOf : List ℤ → List ℤ → Answer × List ℤ
-iwhtOf level resid = ends (verdict (negsuc 262143) (pos 262144) level (length resid)) resid (iwht level)
+iwhtOf level resid = ends (verdict (negℤ (pos 262144)) (pos 262144) level (length resid)) resid (iwht level)
 
 pub record Sixteen (B : ℕ) (l : List ℤ) : Type 0 where
   pub count : length l ≡ 16

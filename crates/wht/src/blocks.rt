@@ -18,6 +18,7 @@ fn forward4(o0: i32, o1: i32, o2: i32, o3: i32) -> Quad
     Quad(o0 + o1 + o2 - e, e - o2, o3 - o2 + e - o1, e - o1)
 }
 
+// The same of a row.
 fn forward_row(q: Quad) -> Quad
     requires { ⌜ Sized 1048576 q ⌝ }
     ensures { λ r. ⌜ r ≡ fore q ⌝ }

@@ -15,6 +15,7 @@ fn load4(l: &[i32], at: usize) -> Quad
     Quad(l[at], l[at + 1], l[at + 2], l[at + 3])
 }
 
+// Sixteen numbers as a block.
 pub fn loaded(l: &[i32]) -> Block
     requires { ⌜ length (now l) ≡ 16 ⌝ }
     ensures { λ r. ⌜ r ≡ block (now (l .entry)) ⌝ }
@@ -41,6 +42,7 @@ fn store4(out: &mut [i32], at: usize, q: Quad)
     out[at + 3] = d;
 }
 
+// A block as sixteen numbers.
 pub fn stored(out: &mut [i32], m: Block)
     requires { ⌜ length (now out) ≡ 16 ⌝ }
     ensures { λ _. ⌜ now (out .exit) ≡ flat m ⌝ }

@@ -1,7 +1,7 @@
 -- `wht::fwht4x4` meets its contract: the verdict, and where it is Done the transform. Assumes nothing.
 use mathlib.Core.Path.{_≡_}
 use lib.Dec.{lit≤}
-use lib.IntN.{pos, negsuc}
+use lib.IntN.{pos, negℤ}
 use lib.ListN.{length}
 use Rattle.answers.proofs.Endings.{same-number, ends-refused, ends-done}
 use Rattle.wht.specs.Wht.{fwht}
@@ -15,7 +15,7 @@ good : (c : tie.Else1) → let s = c .before .before .before in Sixteen 65535 (s
 good c =
     let d = c .before .before in
     let s = d .before in
-    accepted 65535 (negsuc 65534) (pos 65535) (lit≤ tt) (lit≤ tt) (s .args .resid .now) (length (s .args .level .now)) (same-number (d .judge .ensures) (c .if1 .left))
+    accepted 65535 (negℤ (pos 65535)) (pos 65535) (lit≤ tt) (lit≤ tt) (s .args .resid .now) (length (s .args .level .now)) (same-number (d .judge .ensures) (c .if1 .left))
 
 judge-requires : tie.Need-judge-requires
 judge-requires c κs = search needs

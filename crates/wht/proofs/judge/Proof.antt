@@ -21,7 +21,7 @@ abbrev Found : tie.Start → ℕ
 Found s = seek (numberOk (s .args .lo) (s .args .hi) (s .args .l .now)) 0 16
 
 abbrev Rest : tie.Start → Answer
-Rest s = outside (s .args .lo) (s .args .hi) (s .args .l .now) done
+Rest s = outside (s .args .lo) (s .args .hi) (s .args .l .now)
 
 sixteen : (c : tie.Else2) → let s = c .before .before in verdict (s .args .lo) (s .args .hi) (s .args .l .now) (s .args .n) ≡ Rest s
 sixteen c =

@@ -4,7 +4,7 @@ use mathlib.Core.Bool.{true, _&&_}
 use Prim.Native.Nat.{ℕ, _≤_, _<_}
 use borrow.Author.Tests.{not-true, not-false, ne-eqb}
 use lib.Dec.{eqb}
-use lib.IntN.{pos, negsuc}
+use lib.IntN.{pos, negℤ}
 use lib.ListN.{length}
 use Rattle.answers.specs.Answers.{done, refused}
 use Rattle.answers.proofs.Verdicts.{stops, search-opens, search-stops}
@@ -39,7 +39,7 @@ then7 c =
     is7 (s .args .n) (S s) (depths (e .before .before)) (wide e) (fit (c .before)) (c .if4 .left)
 
 abbrev Found : tie.After-first-bad → ℕ
-Found c = seek (numberOk (negsuc 262143) (pos 262144) (c .before .before .before .before .before .before .before .before .args .level .now)) 0 16
+Found c = seek (numberOk (negℤ (pos 262144)) (pos 262144) (c .before .before .before .before .before .before .before .before .args .level .now)) 0 16
 
 between-requires : tie.Need-between-requires
 between-requires c κs = search needs

@@ -1,4 +1,4 @@
--- `passes::scalar::inv_txfm_passes` meets its contract: the block of the size number and the type number. Assumes nothing.
+-- `passes::block::inv_txfm_passes` meets its contract: the block of the size number and the type number. Assumes nothing.
 use mathlib.Core.Path.{_≡_, refl, sym, ap, _∙_, subst}
 use Prim.Native.Nat.{ℕ, _≤_}
 use borrow.Author.Needs.{needs}
@@ -8,8 +8,8 @@ use Rattle.tables.specs.declared.size.Size.{Size}
 use Rattle.tables.specs.Sizes.{cut}
 use Rattle.tables.specs.Kinds.{horOf, verOf}
 use Rattle.passes.specs.Passes.{Block, blockOf, passesOf}
-use Rattle.passes.proofs.scalar.inv_txfm_passes.Statement.{statement}
-use Rattle.passes.proofs.scalar.inv_txfm_passes.Tie as tie
+use Rattle.passes.proofs.block.inv_txfm_passes.Statement.{statement}
+use Rattle.passes.proofs.block.inv_txfm_passes.Tie as tie
 
 size-of-requires : tie.Need-size-of-requires
 size-of-requires c κs = search needs

@@ -1,6 +1,6 @@
--- `passes::scalar::block` meets its contract: load, rows, the step between, columns. Assumes nothing.
+-- `passes::block::block` meets its contract: load, rows, the step between, columns. Assumes nothing.
 use mathlib.Core.Path.{_≡_, refl, sym, ap, _∙_, subst}
-use Prim.Native.Nat.{ℕ, _+_, _*_, _^_, _≤_, _<_}
+use Prim.Native.Nat.{ℕ, _+_, _*_, _%_, _^_, _≤_, _<_}
 use native.Mathlib.Nat as N
 use native.Mathlib.Omega.{arith}
 use borrow.Author.Needs.{needs}
@@ -11,8 +11,9 @@ use Rattle.tables.specs.Dense.{denseOf}
 use Rattle.tables.proofs.Kernels.{cut-most}
 use Rattle.passes.specs.Passes.{scaling, loaded, settledTo}
 use Rattle.passes.proofs.Steps.{clamped-bounded, rows-bounded, whole-block, area}
-use Rattle.passes.proofs.scalar.block.Statement.{statement}
-use Rattle.passes.proofs.scalar.block.Tie as tie
+use Rattle.passes.proofs.Places.{fours}
+use Rattle.passes.proofs.block.block.Statement.{statement}
+use Rattle.passes.proofs.block.block.Tie as tie
 
 -- the work area holds sh rows of sw
 fits : (c : tie.After-is-scaled) → let b = c .before in let a = b .before in b .cut-of2 .result * a .cut-of .result ≤ length (a .before .args .work .now)
@@ -34,11 +35,11 @@ module _ (l : tie.After-load) where
       let s = entered .before .before .before in
       clamped-bounded (s .args .bd) sw sh (gridOf sw (l .load .last .0)) (λ r x. scaling (entered .is-scaled .result) (getD (s .args .coeff .now) (r + x * sh) (pos 0))) (s .pre .0 .deep) (l .load .ensures)
 
-turned : (r : tie.After-row-pass) → let l = r .before .before .before in Bounded (2 ^ 30) (sw l) (sh l) (gridOf (sw l) (r .row-pass .last .0))
+turned : (r : tie.After-rows) → let l = r .before .before .before in Bounded (2 ^ 30) (sw l) (sh l) (gridOf (sw l) (r .rows .last .0))
 turned r =
     let l = r .before .before .before in
     let s = entered l .before .before .before in
-    rows-bounded (s .args .w) (s .args .hor) (sw l) (sh l) (gridOf (sw l) (r .row-pass .last .0)) (gridOf (sw l) (l .load .last .0)) (s .pre .0 .across) (given l) (r .row-pass .ensures)
+    rows-bounded (s .args .w) (s .args .hor) (sw l) (sh l) (gridOf (sw l) (r .rows .last .0)) (gridOf (sw l) (l .load .last .0)) (s .pre .0 .across) (given l) (r .rows .ensures)
 
 cut-of-requires : tie.Need-cut-of-requires
 cut-of-requires c κs = search needs
@@ -57,12 +58,18 @@ load-requires c κs =
     let s = a .before in
     (fits i, rw (a .cut-of .ensures, b .cut-of2 .ensures) (s .pre .0 .long), s .pre .0 .deep, rw (a .cut-of .ensures, b .cut-of2 .ensures, i .is-scaled .ensures) (s .pre .0 .range))
 
-row-pass-requires : tie.Need-row-pass-requires
-row-pass-requires c κs =
+rows-requires : tie.Need-rows-requires
+rows-requires c κs =
     let l = c .before .before in
     let i = entered l in
-    let s = i .before .before .before in
-    (s .pre .0 .across, sym (i .before .before .cut-of .ensures), omega (arith, fits i, l .load .kept .0), given l)
+    let s = i .before .before .before in (
+      s .pre .0 .across,
+      sym (i .before .before .cut-of .ensures),
+      subst (λ (n : ℕ). n % 4 ≡ 0) (sym (i .before .cut-of2 .ensures)) (fours (s .args .h) (s .args .ver) (s .pre .0 .down)),
+      subst (λ (n : ℕ). n ≤ 32) (sym (i .before .cut-of2 .ensures)) (cut-most (s .args .h)),
+      omega (arith, fits i, l .load .kept .0),
+      given l,
+    )
 
 add-step : tie.Need-add-step
 add-step c = search needs
@@ -73,10 +80,10 @@ step-requires c κs =
     let l = r .before .before .before in
     let i = entered l in
     let s = i .before .before .before in
-    (omega (arith, fits i, l .load .kept .0, r .row-pass .kept .0), s .pre .0 .shift, omega (arith, s .pre .0 .deep), turned r)
+    (omega (arith, fits i, l .load .kept .0, r .rows .kept .0), s .pre .0 .shift, omega (arith, s .pre .0 .deep), turned r)
 
-col-pass-requires : tie.Need-col-pass-requires
-col-pass-requires c κs =
+columns-requires : tie.Need-columns-requires
+columns-requires c κs =
     let t = c .before .before in
     let r = t .before .before .before in
     let l = r .before .before .before in
@@ -84,8 +91,9 @@ col-pass-requires c κs =
     let s = i .before .before .before in (
       s .pre .0 .down,
       sym (i .before .cut-of2 .ensures),
-      subst (λ (n : ℕ). n ≤ 32) (sym (i .before .cut-of2 .ensures)) (cut-most (s .args .h)),
-      omega (arith, fits i, l .load .kept .0, r .row-pass .kept .0, t .step .kept .0),
+      subst (λ (n : ℕ). n % 4 ≡ 0) (sym (i .before .before .cut-of .ensures)) (fours (s .args .w) (s .args .hor) (s .pre .0 .across)),
+      subst (λ (n : ℕ). n ≤ 32) (sym (i .before .before .cut-of .ensures)) (cut-most (s .args .w)),
+      omega (arith, fits i, l .load .kept .0, r .rows .kept .0, t .step .kept .0),
       clamped-bounded (s .args .bd) (sw l) (sh l) (gridOf (sw l) (t .step .last .0)) _ (s .pre .0 .deep) (t .step .ensures),
     )
 
@@ -102,8 +110,8 @@ returns c =
     let s = i .before .before .before in
     rw (← i .before .before .cut-of .ensures, ← i .before .cut-of2 .ensures, ← i .is-scaled .ensures)
     (whole-block (sw l) (sh l) (denseOf (s .args .w) (s .args .hor)) (denseOf (s .args .h) (s .args .ver)) (settledTo (s .args .bd + 7) (s .args .first))
-    (loaded (i .is-scaled .result) (s .args .bd) (sh l) (s .args .coeff .now)) (gridOf (sw l) (l .load .last .0)) (gridOf (sw l) (r .row-pass .last .0)) (gridOf (sw l) (t .step .last .0)) (gridOf (sw l) (d .col-pass .last .0))
-    (l .load .ensures) (r .row-pass .ensures) (t .step .ensures) (d .col-pass .ensures))
+    (loaded (i .is-scaled .result) (s .args .bd) (sh l) (s .args .coeff .now)) (gridOf (sw l) (l .load .last .0)) (gridOf (sw l) (r .rows .last .0)) (gridOf (sw l) (t .step .last .0)) (gridOf (sw l) (d .columns .last .0))
+    (l .load .ensures) (r .rows .ensures) (t .step .ensures) (d .columns .ensures))
 
 pub block-spec : {M : Type 1} → statement M
 block-spec =
@@ -113,9 +121,9 @@ block-spec =
     cut-of-requires-2
     is-scaled-requires
     load-requires
-    row-pass-requires
+    rows-requires
     add-step
     step-requires
-    col-pass-requires
+    columns-requires
     same-length
     returns)
