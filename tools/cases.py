@@ -1,0 +1,367 @@
+#!/usr/bin/env python3
+"""Usage: cases.py accepted|refused COUNT SEED > STREAM, or cases.py document|edges > STREAM: write cases of one sort.
+
+Random cases for the stream of CASES.md, from a seed: accepted ones over all sizes, kinds, depths and magnitudes, and
+refused ones, made by spoiling accepted ones. The fixed cases are in demands.py.
+"""
+
+import array
+import random
+import sys
+
+sys.dont_write_bytecode = True
+
+import model
+import stream
+import tables
+from stream import Case
+
+RANGE = (-11_864_550, 11_864_549)
+WHOLE = (-(2**31), 2**31 - 1)
+
+
+# Numbers.
+
+
+def raw(rng, count):
+    """Any 32-bit numbers."""
+    return array.array("i", rng.randbytes(4 * count)).tolist()
+
+
+def clamped(values, low, high):
+    return [low if v < low else high if v > high else v for v in values]
+
+
+def of_one_size(rng, count, low, high):
+    """Numbers of about one size out of a range, small sizes as likely as large ones."""
+    bits = rng.randrange(32)
+    return clamped([v >> bits for v in raw(rng, count)], low, high)
+
+
+def from_ends(rng, count, low, high):
+    return rng.choices((low, low + 1, -1, 0, 1, high - 1, high), k=count)
+
+
+def some(rng, count, low, high):
+    return rng.choice((of_one_size, of_one_size, of_one_size, from_ends))(rng, count, low, high)
+
+
+def samples(rng, count, depth):
+    top = 2**depth - 1
+    pattern = rng.randrange(4)
+    if pattern == 0:
+        return [rng.randint(0, top)] * count
+    if pattern == 1:
+        return rng.choices((0, top), k=count)
+    if pattern == 2:
+        return rng.choices((0, 1, 2, top - 2, top - 1, top), k=count)
+    return [v & top for v in raw(rng, count)]
+
+
+def extra(rng, room):
+    """Numbers past those that a call uses; anything may stand there."""
+    return raw(rng, min(rng.choice((0, 0, 0, 1, 2, 5, 16)), max(room, 0)))
+
+
+def old_output(rng, count):
+    """What a float slice holds before the call, by its bits."""
+    pattern = rng.randrange(3)
+    if pattern == 0:
+        return raw(rng, count)
+    return [0] * count if pattern == 1 else [model.float_bits(-7)] * count
+
+
+# Blocks.
+
+
+def combinations():
+    """Every size, pair of kinds and depth that is accepted."""
+    return [
+        (depth, size, horizontal, vertical)
+        for size, (w, h, _, _) in enumerate(tables.SIZES)
+        for horizontal in range(tables.CODES[w])
+        for vertical in range(tables.CODES[h])
+        for depth in range(8, 13)
+    ]
+
+
+def coefficient_range(size):
+    return RANGE if model.rectangular(size) else WHOLE
+
+
+def single(rng, size, *_):
+    numbers = [0] * model.used(size)[0]
+    numbers[rng.choice((0, rng.randrange(len(numbers))))] = some(rng, 1, *coefficient_range(size))[0]
+    return numbers
+
+
+def corner(rng, size, *_):
+    """A few low coefficients of the first rows and columns."""
+    count, sh = model.used(size)
+    numbers = [0] * count
+    for value in some(rng, rng.randint(1, 8), *coefficient_range(size)):
+        numbers[rng.randrange(4) + sh * rng.randrange(4)] = value
+    return numbers
+
+
+def scattered(rng, size, *_):
+    numbers = [0] * model.used(size)[0]
+    for value in some(rng, rng.randint(2, 12), *coefficient_range(size)):
+        numbers[rng.randrange(len(numbers))] = value
+    return numbers
+
+
+def dense(rng, size, *_):
+    return some(rng, model.used(size)[0], *coefficient_range(size))
+
+
+def sign(value):
+    return (value > 0) - (value < 0)
+
+
+def aligned(rng, size, horizontal, vertical):
+    """Numbers of one size with the signs of a kernel row, so that one output becomes as large as it can."""
+    w, h = model.width_and_height(size)
+    across = rng.choice(model.matrix(w, horizontal))
+    down = rng.choice(model.matrix(h, vertical))
+    low, high = coefficient_range(size)
+    top = rng.choice((2**15, 2**16, 2**17, 2**18, 2**19, 2**20, high))
+    return clamped([top * sign(a) * sign(b) for a in across for b in down], low, high)
+
+
+def empty(rng, size, *_):
+    return [0] * model.used(size)[0]
+
+
+PATTERNS = (empty, single, single, corner, corner, scattered, dense, dense, dense, aligned, aligned)
+
+
+def strides(rng, width, height, room):
+    """A stride that leaves the block within the room."""
+    largest = max(width, min(65_536, (room - width) // (height - 1)))
+    return min(largest, rng.choice((width, width, width + 1, width + rng.randrange(20), 2 * width, largest)))
+
+
+def plane_of(rng, depth, stride, width, height, start, room):
+    """A plane with a block of samples at the start; what lies around it may be anything."""
+    length = start + (height - 1) * stride + width
+    around = raw if rng.randrange(2) else lambda rng, count: samples(rng, count, depth)
+    plane = around(rng, length) + extra(rng, room - length)
+    block = samples(rng, width * height, depth)
+    for y in range(height):
+        at = start + y * stride
+        plane[at : at + width] = block[y * width : (y + 1) * width]
+    return plane
+
+
+def block(rng, call, depth, size, horizontal, vertical, room=stream.LIMIT):
+    """An accepted case of calls 1 to 4."""
+    w, h = model.width_and_height(size)
+    type = horizontal | rng.choice((0, 0, rng.randrange(4))) << 3 | vertical << 5
+    coefficients = rng.choice(PATTERNS)(rng, size, horizontal, vertical)
+    coefficients += extra(rng, room - len(coefficients))
+    if call in (1, 2):
+        spare = room - w * h
+        prediction = samples(rng, w * h, depth) + extra(rng, spare)
+        return Case(call, [depth, size, type], [coefficients, prediction, old_output(rng, w * h) + extra(rng, spare)])
+    stride = strides(rng, w, h, room)
+    return Case(call, [depth, size, type, stride], [coefficients, plane_of(rng, depth, stride, w, h, 0, room)])
+
+
+class Blocks:
+    """Random blocks: two in three go through every combination in a shuffled order, the others give each size its share."""
+
+    def __init__(self, rng):
+        self.rng = rng
+        self.all = combinations()
+        self.waiting = []
+
+    def next_combination(self):
+        if not self.waiting:
+            self.waiting = self.rng.sample(self.all, len(self.all))
+        return self.waiting.pop()
+
+    def by_size(self):
+        size = self.rng.randrange(25)
+        w, h = model.width_and_height(size)
+        kinds = self.rng.randrange(tables.CODES[w]), self.rng.randrange(tables.CODES[h])
+        return self.rng.randint(8, 12), size, *kinds
+
+    def case(self, call):
+        chosen = self.by_size() if self.rng.randrange(3) == 0 else self.next_combination()
+        return block(self.rng, call, *chosen)
+
+
+# The other calls.
+
+
+def chroma(rng, room=stream.LIMIT):
+    depth = rng.randint(8, 12)
+    half = 2 ** (depth + 7)
+    count = min(room, rng.choice((0, 1, 2, 3, 16, rng.randrange(100), rng.randrange(1000))))
+    angles = [some(rng, 1, -256, 256)[0] if rng.randrange(3) == 0 else rng.randint(-256, 256) for _ in range(2)]
+    return Case(5, [depth, *angles], [some(rng, count, -half, half - 1) for _ in range(2)])
+
+
+def wht(rng, call):
+    limit = 65_535 if call == 6 else 262_144
+    return Case(call, [], [some(rng, 16, -limit, limit), raw(rng, 16)])
+
+
+def place_of_block(rng, room):
+    """Stride, row and column of a 4x4 block that a plane of that room can hold."""
+    row = rng.choice((0, 1, 2, rng.randrange(20), rng.randrange(room // 4 - 3)))
+    largest = min(65_536, room // (row + 4))
+    stride = rng.choice((4, 5, min(largest, rng.randint(4, 40)), rng.randint(4, largest)))
+    stride = min(stride, largest)
+    return stride, row, rng.choice((0, stride - 4, rng.randint(0, stride - 4)))
+
+
+def lossless(rng, call, room=1200):
+    """An accepted step or undo: the levels lead from one block of samples to another."""
+    depth = rng.randint(8, 12)
+    stride, row, column = place_of_block(rng, room)
+    plane = plane_of(rng, depth, stride, 4, 4, row * stride + column, room)
+    present = [plane[at] for at in model.places(stride, row, column)]
+    wanted = present if rng.randrange(10) == 0 else samples(rng, 16, depth)
+    residual = [b - a if call == 8 else a - b for a, b in zip(present, wanted)]
+    return Case(call, [depth, stride, row, column], [model.forward(residual), plane])
+
+
+def history(rng, steps):
+    """Steps on one plane, some of them refused, then the undoing of the taken ones, newest first."""
+    depth, stride, rows = rng.randint(8, 12), rng.randint(6, 12), rng.randint(6, 12)
+    plane = samples(rng, stride * rows, depth)
+    cases, taken = [], []
+    for _ in range(steps):
+        row, column = rng.randint(0, rows - 4), rng.randint(0, stride - 4)
+        present = [plane[at] for at in model.places(stride, row, column)]
+        levels = model.forward([b - a for a, b in zip(present, samples(rng, 16, depth))])
+        if rng.randrange(4) == 0:
+            levels[rng.randrange(16)] += rng.choice((1, 2**depth, -(2**14)))
+        cases.append(Case(8, [depth, stride, row, column], [levels, plane]))
+        number, _, after = model.outcome(cases[-1])
+        plane = after.slices[1]
+        if number == 0:
+            taken.append(cases[-1])
+    for case in reversed(taken):
+        cases.append(Case(9, case.arguments, [case.slices[0], plane]))
+        plane = model.outcome(cases[-1])[2].slices[1]
+    return cases
+
+
+def accepted(rng, blocks, call):
+    """An accepted case of any call."""
+    if call <= 4:
+        return blocks.case(call)
+    if call == 5:
+        return chroma(rng)
+    return wht(rng, call) if call <= 7 else lossless(rng, call)
+
+
+# Faults: each takes an accepted case and spoils it in one way. What comes of it, the model says.
+
+
+def set_argument(name, *values):
+    def spoil(rng, case):
+        names = stream.CALLS[case.call].arguments
+        if name in names:
+            case.arguments[names.index(name)] = rng.choice(values)
+
+    return spoil
+
+
+def missing_kind(rng, case):
+    names = stream.CALLS[case.call].arguments
+    if "type" in names:
+        low, high = rng.randrange(8), rng.randrange(8)
+        case.arguments[names.index("type")] = rng.choice((low | high << 5, low, high << 5))
+
+
+def cut(rng, case):
+    """A slice a little shorter, or empty."""
+    values = rng.choice(case.slices)
+    del values[max(0, len(values) - rng.choice((1, 1, 2, 3, 17))) :]
+    if rng.randrange(8) == 0:
+        values.clear()
+
+
+def lengthen(rng, case):
+    values = rng.choice(case.slices)
+    if len(values) < stream.LIMIT:
+        values.append(0)
+
+
+def stray(rng, case):
+    """Some numbers anywhere in a slice replaced by far or near ones."""
+    values = rng.choice(case.slices)
+    depth = case.arguments[0] if case.arguments and case.arguments[0] <= 12 else 8
+    ends = (-1, 2**depth, -(2 ** (depth + 7)) - 1, 2 ** (depth + 7), RANGE[0] - 1, RANGE[1] + 1)
+    ends += (-65_536, 65_536, -262_145, 262_145, *WHOLE)
+    for _ in range(rng.randint(1, 3) if values else 0):
+        values[rng.randrange(len(values))] = rng.choice(ends)
+
+
+def nudge(rng, case):
+    """A level changed a little, so that a step may leave the range."""
+    if case.call in (8, 9) and len(case.slices[0]) == 16:
+        case.slices[0][rng.randrange(16)] += rng.choice((-5000, -300, -3, -1, 1, 3, 300, 5000))
+
+
+HUGE = (2**31, 2**32, 2**32 + 8, 2**62, 2**63 - 1, 2**63, 2**64 - 4, 2**64 - 1)
+FAULTS = (
+    set_argument("depth", 0, 7, 13, 31, 32, 2**31, 2**32 - 1),
+    set_argument("size", 25, 26, 255, *HUGE),
+    set_argument("type", 256, 257, 512, *HUGE),
+    missing_kind,
+    missing_kind,
+    set_argument("stride", 0, 1, 3, 7, 63, 65_536, 65_537, *HUGE),
+    set_argument("row", 65_535, 65_536, *HUGE),
+    set_argument("column", 1, 5, 65_533, *HUGE, 2**64 - 5, 2**64 - 3),
+    set_argument("sine", -257, 257, *WHOLE),
+    set_argument("cosine", -257, 257, *WHOLE),
+    cut,
+    cut,
+    lengthen,
+    stray,
+    stray,
+    stray,
+    nudge,
+    nudge,
+)
+
+
+def copied(case):
+    return Case(case.call, list(case.arguments), [list(values) for values in case.slices])
+
+
+def refused(rng, make):
+    """A case made by make() and spoilt until the model refuses it, by one fault or several."""
+    while True:
+        case = copied(make())
+        for fault in rng.choices(FAULTS, k=rng.choice((1, 1, 2, 3))):
+            fault(rng, case)
+        if model.outcome(case)[0] != 0:
+            return case
+
+
+def random_cases(sort, count, seed):
+    rng = random.Random(seed)
+    blocks = Blocks(rng)
+    make = lambda: accepted(rng, blocks, rng.randint(1, 9))
+    return (make() if sort == "accepted" else refused(rng, make) for _ in range(count))
+
+
+def main(sort, *numbers):
+    import demands
+
+    fixed = {"document": demands.document, "edges": demands.edges}
+    chosen = (demand.case for demand in fixed[sort]()) if sort in fixed else random_cases(sort, *numbers)
+    for case in chosen:
+        sys.stdout.buffer.write(stream.encode(case))
+
+
+if __name__ == "__main__":
+    if sys.argv[1:2] not in (["accepted"], ["refused"], ["document"], ["edges"]) or len(sys.argv) not in (2, 4):
+        sys.exit(__doc__.splitlines()[0])
+    main(sys.argv[1], *map(int, sys.argv[2:]))

@@ -1,0 +1,450 @@
+"""What document 01 lays down for single cases: its sums P1 to P12, its "Run:" lines, and both sides of each refusal.
+
+The answers are written here by hand from the document, so that a test can hold the model, and any other program,
+against them.
+"""
+
+import collections
+import itertools
+
+import model
+import stream
+import tables
+from cases import RANGE, WHOLE
+from stream import Case
+
+# A case and its answer; slices is None where only number and place are laid down.
+Demand = collections.namedtuple("Demand", "label case number place slices", defaults=[0, 0, None])
+
+PIXEL_CALLS = (1, 2, 3, 4)
+RECTANGULAR = (5, 6, 7, 8, 9, 10, 11, 12, 19, 20, 21, 22)
+SMALL_SIZE_OF_LENGTH = {4: (0, 0), 8: (6, 5), 16: (14, 13), 32: (20, 19), 64: (24, 23)}
+
+
+# Cases.
+
+
+def lengths_of(size):
+    w, h = model.width_and_height(size if size < 25 else 0)
+    return min(w, 32) * min(h, 32), w, h
+
+
+def recon(call, depth=8, size=0, type=0, coefficients=None, prediction=None, output=None):
+    count, w, h = lengths_of(size)
+    slices = coefficients, prediction, output
+    usual = [0] * count, [100] * (w * h), [7] * (w * h)
+    return Case(call, [depth, size, type], [list(b if a is None else a) for a, b in zip(slices, usual)])
+
+
+def add(call, depth=8, size=0, type=0, coefficients=None, plane=None, stride=None):
+    count, w, h = lengths_of(size)
+    stride = w if stride is None else stride
+    reach = (h - 1) * stride + w if stride <= 65_536 else w * h
+    usual = [0] * count, [100] * min(reach, stream.LIMIT)
+    slices = [list(b if a is None else a) for a, b in zip((coefficients, plane), usual)]
+    return Case(call, [depth, size, type, stride], slices)
+
+
+def pixel(call, depth=8, size=0, type=0, coefficients=None, present=None):
+    """A case of calls 1 to 4; the samples before it are the prediction or the plane."""
+    return (recon if call <= 2 else add)(call, depth, size, type, coefficients, present)
+
+
+def chroma(u, v, depth=8, sine=0, cosine=256):
+    return Case(5, [depth, sine, cosine], [list(u), list(v)])
+
+
+def wht(call, source, target=None):
+    return Case(call, [], [list(source), [7] * 16 if target is None else list(target)])
+
+
+def lossless(call, depth=8, stride=8, row=0, column=0, levels=None, plane=None):
+    levels = [0] * 16 if levels is None else list(levels)
+    return Case(call, [depth, stride, row, column], [levels, [100] * 64 if plane is None else list(plane)])
+
+
+def with_number(count, index, value, others=0):
+    numbers = [others] * count
+    numbers[index] = value
+    return numbers
+
+
+# The sums of document 01.
+
+
+def on_pixel_calls(label, size, type, index, value, pixels):
+    """One coefficient that is not zero, prediction 100: the same pixels by all four calls."""
+    for call in PIXEL_CALLS:
+        case = pixel(call, 8, size, type, with_number(lengths_of(size)[0], index, value))
+        after = list(map(model.float_bits, pixels)) if call <= 2 else list(pixels)
+        yield Demand(f"{label}, call {call}", case, slices=[after])
+
+
+def pixel_sums():
+    row = [100] * 4
+    yield from on_pixel_calls("P1", 0, 0, 0, 15, [101] * 16)
+    yield from on_pixel_calls("P2", 0, 0, 0, 14, [100] * 16)
+    yield from on_pixel_calls("P3", 0, 0, 0, -18, [99] * 16)
+    yield from on_pixel_calls("P4", 0, 0, 0, -17, [100] * 16)
+    yield from on_pixel_calls("P5", 19, 0, 0, 256, [103] * 128)
+    yield from on_pixel_calls("P6", 0, 34, 0, 128, [102, 106, 109, 111] + 3 * row)
+    yield from on_pixel_calls("P7", 0, 35, 4, 128, [109, 98, 89, 94] + 3 * row)
+    yield from on_pixel_calls("P8", 5, 33, 1, 256, row + [132] + [100] * 27)
+    yield from on_pixel_calls("Run 64 at size 4", 4, 0, 0, 64, [101] * 4096)
+    yield from on_pixel_calls("Run 63 at size 4", 4, 0, 0, 63, [100] * 4096)
+
+
+def other_sums():
+    yield Demand("P9", chroma([128, -128, 127, -127], [0] * 4, cosine=1), slices=[[1, -1, 0, 0], [0] * 4])
+    transforms = (
+        ("P10", [1, 2, 3, 4] + [0] * 12, [3, -1, 0, 0] + 3 * [2, -1, 0, -1]),
+        ("P11", [-1] + [0] * 15, [0] * 4 + 3 * [0, -1, -1, -1]),
+        ("P12", [1] * 16, [4] + [0] * 15),
+    )
+    for label, residual, levels in transforms:
+        yield Demand(label, wht(6, residual), slices=[levels])
+        yield Demand(f"{label} inverted", wht(7, levels), slices=[residual])
+    for call in (8, 9):
+        yield Demand(f"Run column 4, call {call}", lossless(call, column=4), slices=[[100] * 64])
+        yield Demand(f"Run column 5, call {call}", lossless(call, column=5), 6, 0, [[100] * 64])
+
+
+def range_sums():
+    for call in PIXEL_CALLS:
+        for size, value, number in ((5, RANGE[1] + 1, 7), (5, RANGE[1], 0), (0, WHOLE[1], 0)):
+            case = pixel(call, 8, size, 0, with_number(lengths_of(size)[0], 0, value))
+            yield Demand(f"Run {value} at size {size}, call {call}", case, number, 0)
+
+
+def document():
+    return [*pixel_sums(), *other_sums(), *range_sums()]
+
+
+# Both sides of each refusal, one at a time.
+
+
+def depths():
+    makers = [lambda depth, call=call: pixel(call, depth) for call in PIXEL_CALLS]
+    makers += [lambda depth: chroma([1], [2], depth), lambda depth: chroma([], [], depth)]
+    makers += [lambda depth, call=call: lossless(call, depth) for call in (8, 9)]
+    for make in makers:
+        for depth in (8, 9, 10, 11, 12):
+            yield Demand(f"depth {depth}", make(depth))
+        for depth in (0, 7, 13, 32, 2**31, 2**32 - 1):
+            yield Demand(f"depth {depth}", make(depth), 1)
+
+
+def sizes_and_types():
+    for call in PIXEL_CALLS:
+        yield Demand("size 24", pixel(call, size=24))
+        for size in (25, 26, 256, 2**32, 2**32 + 1, 2**63, 2**64 - 1):
+            yield Demand(f"size {size}", pixel(call, size=size), 2)
+        for type in (0, 8, 16, 24, 34, 58, 67, 99):
+            yield Demand(f"type {type}", pixel(call, type=type))
+        yield Demand("type 255", pixel(call, type=255), 4)
+        for type in (256, 257, 512, 2**32, 2**63, 2**64 - 1):
+            yield Demand(f"type {type}", pixel(call, type=type), 3)
+
+
+def kinds():
+    """Every code at every length; a missing one is told before an empty slice is."""
+    for call, (length, (wide, tall)), code in itertools.product(PIXEL_CALLS, SMALL_SIZE_OF_LENGTH.items(), range(8)):
+        for size, type, place in ((wide, code, 0), (tall, code << 5, 1)):
+            label = f"code {code} at length {length}, place {place}"
+            if code < tables.CODES[length]:
+                yield Demand(label, pixel(call, size=size, type=type))
+            else:
+                yield Demand(label, pixel(call, 8, size, type, [], []), 4, place)
+    for call in PIXEL_CALLS:
+        yield Demand("two missing kinds", pixel(call, type=4 | 5 << 5), 4, 0)
+        yield Demand("a class beside a missing kind", pixel(call, type=24 | 6 << 5), 4, 1)
+
+
+def pixel_lengths():
+    for call, size in itertools.product(PIXEL_CALLS, (0, 5, 6, 13, 20, 24)):
+        whole = pixel(call, size=size)
+        yield Demand(f"exact lengths, size {size}", whole)
+        for i, name in enumerate(stream.CALLS[call].slices):
+            for rest in ([], whole.slices[i][1:]):
+                slices = whole.slices[:i] + [rest] + whole.slices[i + 1 :]
+                label = f"{len(rest)} {name}, size {size}"
+                yield Demand(label, Case(call, whole.arguments, slices), 6)
+    yield Demand("1,023 coefficients, size 4", add(3, size=4, coefficients=[0] * 1023), 6)
+    yield Demand("1,024 coefficients, size 4", add(3, size=4, coefficients=[0] * 1024))
+
+
+def coefficient_ranges():
+    for size in range(25):
+        count = lengths_of(size)[0]
+        for value in (RANGE[1] + 1, RANGE[0] - 1):
+            refusal = (7, count - 1) if size in RECTANGULAR else (0, 0)
+            case = add(3 + (value < 0), size=size, coefficients=with_number(count, count - 1, value))
+            yield Demand(f"coefficient {value}, size {size}", case, *refusal)
+    for call in PIXEL_CALLS:
+        for value, place in itertools.product((*RANGE, *WHOLE), (0, 7, 31, 32)):
+            refusal = (7, place) if value in WHOLE and place < 32 else (0, 0)
+            case = pixel(call, size=5, coefficients=with_number(33, place, value))
+            yield Demand(f"coefficient {value} at {place} of 32", case, *refusal)
+        for value in WHOLE:
+            yield Demand(f"coefficient {value}, size 0", pixel(call, coefficients=[value] * 16))
+
+
+def sample_ranges():
+    for call, depth in itertools.product(PIXEL_CALLS, (8, 12)):
+        for value, place in itertools.product((-1, 0, 2**depth - 1, 2**depth, *WHOLE), (0, 6, 15, 16)):
+            refused = place < 16 and not 0 <= value < 2**depth
+            present = with_number(17, place, value, 100)
+            label = f"sample {value} at {place} of 16, depth {depth}"
+            yield Demand(label, pixel(call, depth, present=present), *((8, place) if refused else (0, 0)))
+
+
+def plane_pads():
+    """Numbers between the width and the stride are not read."""
+    for call, value in itertools.product((3, 4), (-1, 256, *WHOLE)):
+        plane = [value if at % 7 >= 4 else 100 for at in range(32)]
+        yield Demand("pads", add(call, stride=7, plane=plane))
+        yield Demand("a sample among pads", add(call, stride=7, plane=plane[:24] + [value] + plane[25:]), 8, 24)
+
+
+def add_strides():
+    for call in (3, 4):
+        for stride in (4, 5, 300):
+            yield Demand(f"stride {stride}", add(call, stride=stride))
+        for stride in (0, 3, 65_537, 2**31, 2**32 + 4, 2**63, 2**64 - 4, 2**64 - 1):
+            yield Demand(f"stride {stride}", add(call, stride=stride), 5)
+        for plane in ([], [100] * 16, [100] * 1000):
+            yield Demand("stride 65,536, a short plane", add(call, stride=65_536, plane=plane), 6)
+        for stride, length, number in ((7, 25, 0), (7, 24, 6), (4, 15, 6), (64, 195, 6), (64, 196, 0)):
+            label = f"stride {stride}, {length} samples"
+            yield Demand(label, add(call, stride=stride, plane=[100] * length), number)
+        yield Demand("stride 31 at width 32", add(call, size=20, stride=31), 5)
+        yield Demand("stride 32 at width 32", add(call, size=20, stride=32))
+        yield Demand("stride 63 at width 64", add(call, size=24, stride=63), 5)
+    yield Demand("the longest plane", add(3, stride=6665, plane=[100] * stream.LIMIT))
+
+
+def chroma_edges():
+    for u, v, number in (([], [], 0), ([1], [], 6), ([], [1], 6), ([1] * 3, [1] * 4, 6), ([1] * 4, [1] * 3, 6)):
+        yield Demand(f"{len(u)} and {len(v)} chroma", chroma(u, v), number)
+    for depth in (8, 12):
+        half = 2 ** (depth + 7)
+        for value, number in ((-half, 0), (half - 1, 0), (-half - 1, 7), (half, 7), (WHOLE[0], 7), (WHOLE[1], 7)):
+            for place in (0, 2, 4):
+                numbers = with_number(5, place, value)
+                refusal = (number, place if number else 0)
+                yield Demand(f"u {value} at {place}", chroma(numbers, [0] * 5, depth), *refusal)
+                yield Demand(f"v {value} at {place}", chroma([0] * 5, numbers, depth), *refusal)
+    far = with_number(5, 3, 40_000), with_number(5, 1, -40_000)
+    yield Demand("u at 3 and v at 1", chroma(*far), 7, 1)
+    yield Demand("v at 3 and u at 1", chroma(*far[::-1]), 7, 1)
+    for angle, number in ((-256, 0), (256, 0), (-257, 9), (257, 9), (WHOLE[0], 9), (WHOLE[1], 9)):
+        for pair in ([], [3]):
+            yield Demand(f"sine {angle}", chroma(pair, pair, sine=angle), number, 0)
+            yield Demand(f"cosine {angle}", chroma(pair, pair, cosine=angle), number, 1 if number else 0)
+
+
+def wht_edges():
+    for call, limit in ((6, 65_535), (7, 262_144)):
+        for length in (0, 1, 15, 17, 32):
+            yield Demand(f"{length} to transform", wht(call, [0] * length), 6)
+            yield Demand(f"{length} for the result", wht(call, [0] * 16, [7] * length), 6)
+        yield Demand("17 and 15", wht(call, [0] * 17, [7] * 15), 6)
+        yield Demand("17, the last out of range", wht(call, [0] * 16 + [WHOLE[1]]), 6)
+        for value in (-limit, limit):
+            yield Demand(f"all {value}", wht(call, [value] * 16))
+            yield Demand(f"{value} by turns", wht(call, [value, -value] * 8))
+        for value, place in itertools.product((-limit - 1, limit + 1, *WHOLE), (0, 7, 15)):
+            yield Demand(f"{value} at {place}", wht(call, with_number(16, place, value)), 7, place)
+        yield Demand("two out of range", wht(call, [0] * 9 + [limit + 1, -limit - 1] + [0] * 5), 7, 9)
+
+
+def lossless_places():
+    for call in (8, 9):
+        for stride, number in ((0, 5), (3, 5), (4, 0), (65_536, 6), (65_537, 5), (2**32 + 8, 5), (2**64 - 1, 5)):
+            yield Demand(f"stride {stride}", lossless(call, stride=stride), number)
+        for row in (5, 65_535, 65_536, 2**31, 2**32, 2**61, 2**62, 2**63, 2**64 - 3, 2**64 - 1):
+            yield Demand(f"row {row}", lossless(call, row=row), 6)
+        for column in (5, 8, 2**32, 2**63, 2**64 - 8, 2**64 - 5, 2**64 - 4, 2**64 - 3, 2**64 - 1):
+            yield Demand(f"column {column}", lossless(call, column=column), 6)
+        for length, number in ((27, 6), (28, 0), (0, 6)):
+            label = f"{length} samples, stride 8"
+            yield Demand(label, lossless(call, plane=[100] * length), number)
+        for length, number in ((63, 6), (64, 0), (65, 0)):
+            label = f"{length} samples, the last block"
+            yield Demand(label, lossless(call, row=4, column=4, plane=[100] * length), number)
+        for length in (0, 15, 17):
+            yield Demand(f"{length} levels", lossless(call, levels=[0] * length), 6)
+
+
+def lossless_numbers():
+    """A block at row 2, column 3 of stride 8: its samples have the indices 19 to 22, 27 to 30, 35 to 38, 43 to 46."""
+    for call in (8, 9):
+        make = lambda **words: lossless(call, row=2, column=3, **words)
+        for value, place in itertools.product((-262_145, 262_145, *WHOLE), (0, 5, 15)):
+            yield Demand(f"level {value} at {place}", make(levels=with_number(16, place, value)), 7, place)
+        for value, place in itertools.product((-1, 256, *WHOLE), (18, 19, 23, 29, 46, 47)):
+            refusal = (8, place) if place in (19, 29, 46) else (0, 0)
+            yield Demand(f"sample {value} at {place}", make(plane=with_number(64, place, value, 100)), *refusal)
+        yield Demand("level 262,144", make(levels=with_number(16, 0, 262_144)), 10, 19)
+        towards = 1 if call == 8 else -1
+        for index, place in ((0, 19), (5, 28), (15, 46)):
+            for gain, at_end in ((1, 255), (-1, 0)):
+                levels = model.forward(with_number(16, index, towards * gain))
+                label = f"{gain} more at {place}"
+                last = with_number(64, place, at_end, 100)
+                before = with_number(64, place, at_end - gain, 100)
+                yield Demand(f"{label}, at the end", make(levels=levels, plane=last), 10, place)
+                yield Demand(f"{label}, before it", make(levels=levels, plane=before), slices=[last])
+
+
+# Two refusals at once: the lowest number counts, then the lowest place.
+
+Fault = collections.namedtuple("Fault", "number place spoil")
+
+
+def argument(index, value):
+    def spoil(case):
+        case.arguments[index] = value
+
+    return spoil
+
+
+def in_type(bits):
+    def spoil(case):
+        case.arguments[2] |= bits
+
+    return spoil
+
+
+def number_at(slice, index, value):
+    def spoil(case):
+        case.slices[slice][index] = value
+
+    return spoil
+
+
+def shorter(slice):
+    def spoil(case):
+        del case.slices[slice][-1]
+
+    return spoil
+
+
+def longer(slice):
+    def spoil(case):
+        case.slices[slice].append(0)
+
+    return spoil
+
+
+def one_level_up(index, towards):
+    """Levels for a gain of one at an index, on top of those that are there."""
+    levels = model.forward(with_number(16, index, towards))
+
+    def spoil(case):
+        case.slices[0][:] = [a + b for a, b in zip(case.slices[0], levels)] + case.slices[0][16:]
+
+    return spoil
+
+
+BLOCK_FAULTS = [
+    Fault(1, 0, argument(0, 7)),
+    Fault(1, 0, argument(0, 13)),
+    Fault(2, 0, argument(1, 25)),
+    Fault(3, 0, in_type(256)),
+    Fault(4, 0, in_type(4)),
+    Fault(4, 1, in_type(6 << 5)),
+    Fault(6, 0, shorter(0)),
+    Fault(6, 0, shorter(1)),
+    Fault(7, 3, number_at(0, 3, RANGE[1] + 1)),
+    Fault(7, 2, number_at(0, 2, RANGE[0] - 1)),
+]
+RECON_FAULTS = BLOCK_FAULTS + [
+    Fault(6, 0, shorter(2)),
+    Fault(8, 9, number_at(1, 9, 256)),
+    Fault(8, 6, number_at(1, 6, -1)),
+]
+ADD_FAULTS = BLOCK_FAULTS + [
+    Fault(5, 0, argument(3, 3)),
+    Fault(5, 0, argument(3, 65_537)),
+    Fault(8, 8, number_at(1, 8, 256)),
+    Fault(8, 7, number_at(1, 7, -1)),
+]
+CHROMA_FAULTS = [
+    Fault(1, 0, argument(0, 7)),
+    Fault(6, 0, longer(1)),
+    Fault(7, 2, number_at(0, 2, 600_000)),
+    Fault(7, 1, number_at(1, 1, -600_000)),
+    Fault(9, 0, argument(1, 257)),
+    Fault(9, 1, argument(2, -257)),
+]
+WHT_FAULTS = [
+    Fault(6, 0, shorter(0)),
+    Fault(6, 0, longer(1)),
+    Fault(7, 4, number_at(0, 4, 300_000)),
+    Fault(7, 3, number_at(0, 3, -300_000)),
+]
+
+
+def lossless_faults(towards):
+    return [
+        Fault(1, 0, argument(0, 13)),
+        Fault(5, 0, argument(1, 3)),
+        Fault(5, 0, argument(1, 65_537)),
+        Fault(6, 0, argument(2, 65_536)),
+        Fault(6, 0, argument(3, 2**64 - 4)),
+        Fault(6, 0, shorter(0)),
+        Fault(6, 0, shorter(1)),
+        Fault(7, 4, number_at(0, 4, 300_000)),
+        Fault(7, 2, number_at(0, 2, -300_000)),
+        Fault(8, 45, number_at(1, 45, 256)),
+        Fault(8, 37, number_at(1, 37, -1)),
+        Fault(10, 28, one_level_up(5, towards)),
+        Fault(10, 20, one_level_up(1, towards)),
+    ]
+
+
+def spoilt(make, faults):
+    """All pairs of faults, and all faults together."""
+    for chosen in [*itertools.combinations(faults, 2), faults]:
+        case = make()
+        for fault in chosen:
+            fault.spoil(case)
+        lowest = min(chosen, key=lambda fault: (fault.number, fault.place))
+        label = "faults " + " ".join(f"{fault.number}@{fault.place}" for fault in chosen)
+        yield Demand(label, case, lowest.number, lowest.place)
+
+
+def together():
+    for call in (1, 2):
+        yield from spoilt(lambda: recon(call, size=5), RECON_FAULTS)
+    for call in (3, 4):
+        yield from spoilt(lambda: add(call, size=5, stride=6), ADD_FAULTS)
+    yield from spoilt(lambda: chroma([0] * 4, [0] * 4), CHROMA_FAULTS)
+    for call in (6, 7):
+        yield from spoilt(lambda: wht(call, [0] * 16), WHT_FAULTS)
+    for call, towards in ((8, 1), (9, -1)):
+        make = lambda: lossless(call, row=2, column=3, plane=[255] * 47)
+        yield from spoilt(make, lossless_faults(towards))
+
+
+def edges():
+    sections = (depths, sizes_and_types, kinds, pixel_lengths, coefficient_ranges, sample_ranges, plane_pads)
+    sections += (add_strides, chroma_edges, wht_edges, lossless_places, lossless_numbers, together)
+    return [demand for section in sections for demand in section()]
+
+
+# Streams that break the rules of CASES.md, each after one whole case.
+
+
+def broken_streams():
+    case = wht(6, [1] * 16)
+    whole = stream.encode(case)
+    word = stream.word
+    unknown = [word(call) for call in (0, 10, 255, 2**32 + 6, 2**63, 2**64 - 1)]
+    ends = [whole[:count] for count in (1, 7, 8, 15, 16, 17, 79, 80, 87, 88, len(whole) - 1)]
+    longer = [word(6) + word(length) for length in (20_001, 2**31, 2**32, 2**62, 2**63, 2**64 - 1)]
+    longer.append(word(6) + word(20_001) + bytes(4 * 20_001) + word(16) + bytes(64))
+    wide = [word(5) + word(2**32 + 8) + word(0) + word(256) + word(0) + word(0)]
+    wide += [word(5) + word(8) + word(angle) + word(256) + word(0) + word(0) for angle in (2**31, -(2**31) - 1, 2**63)]
+    return [whole + part + rest for part in unknown + longer + wide for rest in (b"", whole)] + [whole + end for end in ends]
