@@ -1,6 +1,6 @@
 // Runs the chroma call and writes what it leaves: a line of u and a line of v for each call.
 // The file stdout has the unchanged Rust's answers to the same calls; tools/record-chroma writes it.
-use libc::STDOUT_FILENO;
+use lines::line;
 
 // P9 of document 01 in the first four, and the next half in the others.
 const HALVES: [i32; 8] = [128, -128, 127, -127, 384, -384, 383, -383];
@@ -19,27 +19,6 @@ const V10: [i32; 8] = [131071, 131071, -131072, -131072, -131072, 0, -1, 131071]
 const U12: [i32; 8] = [524287, -524288, 524287, -524288, 0, 524287, 1, -1];
 
 const V12: [i32; 8] = [524287, 524287, -524288, -524288, -524288, 0, -1, 524287];
-
-// One number after a space, with its sign.
-fn show(z: i32) {
-    if z < 0 {
-        io::write_all(STDOUT_FILENO, b" -");
-        io::print_decimal(STDOUT_FILENO, (-(z as i64)) as u64);
-    } else {
-        io::write_all(STDOUT_FILENO, b" ");
-        io::print_decimal(STDOUT_FILENO, z as u64);
-    }
-}
-
-// A list, on a line.
-fn line(list: &[i32]) {
-    let mut i = 0;
-    while i < list.len() {
-        show(list[i]);
-        i += 1;
-    }
-    io::write_all(STDOUT_FILENO, b"\n");
-}
 
 // One call, and what it leaves.
 fn run(mut u: [i32; 8], mut v: [i32; 8], sina: i32, cosa: i32, bd: u32) {

@@ -4,15 +4,16 @@
 --     even-asks               what the DCT of the even inputs asks
 --     join-asks, join-left    what `join` asks and leaves, once that DCT, lo, was written over the even inputs
 use mathlib.Core.Path.{_≡_, refl, sym, ap, _∙_, subst}
-use mathlib.Core.Logic.{_⊎_, inl, inr}
+use mathlib.Core.Logic.{inl, inr}
 use mathlib.Core.List.{List, _++_}
-use Prim.Native.Nat.{ℕ, _+_, _*_, _^_, _≤_, _<_}
+use Prim.Native.Nat.{ℕ, _+_, _^_, _≤_, _<_}
 use native.Mathlib.Omega.{arith}
-use lib.Dec.{T, leb, lit<, lit≤}
+use lib.Dec.{T, leb}
 use lib.IntN.{ℤ, pos}
 use lib.ListN.{length, getD, take, drop, replicate}
 use lib.Seq.{length-take-le, length-front, take-at}
 use Rattle.whole.specs.Sums.{tab, dotZ, dense, colAt, rowAt, scatter, sizeOf, Within, foldRow}
+use Rattle.whole.specs.Parts.{joined, JoinRoom}
 use Rattle.whole.proofs.Tests.{below}
 use Rattle.whole.proofs.Fill.{length-tab}
 use Rattle.whole.proofs.Butterfly.{Holds, gather-holds, gather-within}
@@ -20,7 +21,6 @@ use Rattle.tables.specs.Half.{half8, half16}
 use Rattle.tables.specs.Dense.{dctTable}
 use Rattle.kernels.specs.Inputs.{Inputs}
 use Rattle.kernels.specs.Rows.{Rows}
-use Rattle.kernels.specs.Butterfly.{folded, Room}
 use Rattle.kernels.specs.Dct.{dctOf, Recursed, OddTable}
 use Rattle.kernels.proofs.Front.{front-is}
 use Rattle.kernels.proofs.ByRows.{rowsOk, rows-are}
@@ -81,12 +81,12 @@ rowO n mat i = scatter (rowAt n mat i) (λ i. i + i + 1)
 
 pub record Joinable (n : ℕ) (mat xs odd out : List ℤ) : Type 0 where
   pub rows : Rows mat odd
-  pub room : Room out (dense (length odd) mat odd)
-  pub done : (new : List ℤ) → new ≡ folded out (dense (length odd) mat odd) → new ≡ dctOf (n + n) xs
+  pub room : JoinRoom (length odd) out (dense (length odd) mat odd)
+  pub done : (new : List ℤ) → new ≡ joined (length odd) out (dense (length odd) mat odd) → new ≡ dctOf (n + n) xs
 
 -- by tests of the table
 module _ (n : ℕ) (mat : List ℤ) (ok : T (rowsOk n mat)) (te : T (below (λ m. leb (length (colAt n (dctTable n) m)) n) n))
-    (to : T (below (λ i. leb (length (rowAt n mat i)) n) n)) (ts : T (below (λ j. leb (sizeOf (rowE n j) + sizeOf (rowO n mat j)) 4000) n))
+    (to : T (below (λ i. leb (length (rowAt n mat i)) n) n)) (ts : T (below (λ j. leb (sizeOf (rowE n j) + sizeOf (rowO n mat j)) 4095) n))
     (last : (xs out : List ℤ) → Holds (n + n) (foldRow n (rowE n) (rowO n mat)) xs out → out ≡ dctOf (n + n) xs) where
   joins : (xs odd out : List ℤ) → Within (2 ^ 19) xs → odd ≡ tab n (oddOf xs) → take n out ≡ dctOf n (tab n (evenOf xs)) → Joinable n mat xs odd out
   joins xs odd out w o e =
@@ -96,16 +96,16 @@ module _ (n : ℕ) (mat : List ℤ) (ok : T (rowsOk n mat)) (te : T (below (λ m
       let ho : Holds n (rowO n mat) xs (dense (length odd) mat odd) = gather-holds n n {A = rowAt n mat} (λ i. i + i + 1) o to (record { is = ap (λ m. dense m mat odd) c }) in
       record {
         rows = rows-are n mat ok odd (c, v);
-        room = fold-fits out hl ho 4000 (2 ^ 19) w ts (lit< tt);
-        done = λ new q. last xs new (fold-left out hl ho q);
+        room = subst (λ (m : ℕ). JoinRoom m out (dense (length odd) mat odd)) (sym c) (fold-fits out hl ho w ts);
+        done = λ new q. last xs new (fold-left out hl ho (q ∙ ap (λ m. joined m out (dense (length odd) mat odd)) c));
       }
 
-joined : {n : ℕ} {mat : List ℤ} (xs odd out : List ℤ) → OddTable n mat → Within (2 ^ 19) xs → odd ≡ tab n (oddOf xs) → take n out ≡ dctOf n (tab n (evenOf xs)) → Joinable n mat xs odd out
-joined {n} {mat} xs odd out (inl p) w o e =
+joins-of : {n : ℕ} {mat : List ℤ} (xs odd out : List ℤ) → OddTable n mat → Within (2 ^ 19) xs → odd ≡ tab n (oddOf xs) → take n out ≡ dctOf n (tab n (evenOf xs)) → Joinable n mat xs odd out
+joins-of {n} {mat} xs odd out (inl p) w o e =
     subst (λ (m : List ℤ). Joinable n m xs odd out) (sym (p .1))
     (subst (λ (m : ℕ). odd ≡ tab m (oddOf xs) → take m out ≡ dctOf m (tab m (evenOf xs)) → Joinable m half8 xs odd out) (sym (p .0))
     (joins 4 half8 tt tt tt tt (λ xs out h. h .is) xs odd out w) o e)
-joined {n} {mat} xs odd out (inr p) w o e =
+joins-of {n} {mat} xs odd out (inr p) w o e =
     subst (λ (m : List ℤ). Joinable n m xs odd out) (sym (p .1))
     (subst (λ (m : ℕ). odd ≡ tab m (oddOf xs) → take m out ≡ dctOf m (tab m (evenOf xs)) → Joinable m half16 xs odd out) (sym (p .0))
     (joins 8 half16 tt tt tt tt (λ xs out h. h .is) xs odd out w) o e)
@@ -118,14 +118,14 @@ module _ {n : ℕ} {mat xs odd ev lo : List ℤ} (h : Halved n mat xs odd ev) (e
   low-count = ap length low ∙ length-tab n (λ m. dotZ (colAt n (dctTable n) m) (tab n (evenOf xs)))
 
   joinable : Joinable n mat xs odd (lo ++ drop n ev)
-  joinable = joined xs odd (lo ++ drop n ev) (h .table) (h .inputs .1) (h .odds) (take-at lo (drop n ev) n low-count ∙ low)
+  joinable = joins-of xs odd (lo ++ drop n ev) (h .table) (h .inputs .1) (h .odds) (take-at lo (drop n ev) n low-count ∙ low)
 
   -- of the first places of the array that holds the odd inputs
   module _ (q : List ℤ) where
     pub join-asks :
-        let odds = take n (odd ++ q) in ((length odds ≤ 16) × (length (lo ++ drop n ev) ≡ length odds + length odds) × Rows mat odds) × Room (lo ++ drop n ev) (dense (length odds) mat odds)
+        let odds = take n (odd ++ q) in ((length odds ≤ 16) × (length (lo ++ drop n ev) ≡ length odds + length odds) × Rows mat odds) × JoinRoom (length odds) (lo ++ drop n ev) (dense (length odds) mat odds)
     join-asks =
-        subst (λ (odds : List ℤ). ((length odds ≤ 16) × (length (lo ++ drop n ev) ≡ length odds + length odds) × Rows mat odds) × Room (lo ++ drop n ev) (dense (length odds) mat odds))
+        subst (λ (odds : List ℤ). ((length odds ≤ 16) × (length (lo ++ drop n ev) ≡ length odds + length odds) × Rows mat odds) × JoinRoom (length odds) (lo ++ drop n ev) (dense (length odds) mat odds))
         (sym (front-is n (oddOf xs) (h .odds) q)) (
           (
             omega (arith, odd-count h, odd-sizes (h .table) .1),
@@ -135,5 +135,5 @@ module _ {n : ℕ} {mat xs odd ev lo : List ℤ} (h : Halved n mat xs odd ev) (e
           joinable .room,
         )
 
-    pub join-left : {new : List ℤ} → new ≡ folded (lo ++ drop n ev) (dense (length (take n (odd ++ q))) mat (take n (odd ++ q))) → new ≡ dctOf (n + n) xs
-    join-left {new} e = joinable .done new (e ∙ ap (λ l. folded (lo ++ drop n ev) (dense (length l) mat l)) (front-is n (oddOf xs) (h .odds) q))
+    pub join-left : {new : List ℤ} → new ≡ joined (length (take n (odd ++ q))) (lo ++ drop n ev) (dense (length (take n (odd ++ q))) mat (take n (odd ++ q))) → new ≡ dctOf (n + n) xs
+    join-left {new} e = joinable .done new (e ∙ ap (λ l. joined (length l) (lo ++ drop n ev) (dense (length l) mat l)) (front-is n (oddOf xs) (h .odds) q))

@@ -6,23 +6,22 @@
 --     Grown                                 the loop's invariant, of the list c; grown-start, grown-room, grown-more, grown-all: its laws
 --     dense-asks, dense-left                what `dct_by` asks and leaves, of a copy of the inputs
 use mathlib.Core.Path.{_≡_, refl, sym, ap, _∙_, subst}
-use mathlib.Core.Logic.{_⊎_, inl, inr}
-use mathlib.Core.Bool.{Bool, _&&_}
+use mathlib.Core.Logic.{inl, inr}
 use mathlib.Core.List.{List, _++_}
-use Prim.Native.Nat.{ℕ, zero, suc, _+_, _*_, _/_, _^_, _≤_, _<_}
+use Prim.Native.Nat.{ℕ, zero, suc, _+_, _/_, _^_, _≤_, _<_}
 use native.Mathlib.Omega.{arith}
-use lib.Dec.{T, eqb, eqb→eq, leb, ltb, ltb→lt, lit<, lit≤}
+use lib.Dec.{T, leb, lit<, lit≤}
 use lib.IntN.{ℤ}
 use lib.ListN.{length, take, drop}
 use lib.Seq.{length-take-le, length-front, take-at, take-take, take-all}
 use Rattle.whole.specs.Sums.{dotZ, sizeOf, Within, denseC, foldRow}
-use Rattle.whole.proofs.Tests.{and-left, and-right, below, below-at}
+use Rattle.whole.proofs.Tests.{below}
 use Rattle.whole.proofs.Fill.{length-tab}
 use Rattle.whole.proofs.Butterfly.{Holds, held-length}
+use Rattle.whole.proofs.Parts.{parts-are}
 use Rattle.tables.specs.Dct.{dct16, dct32}
 use Rattle.kernels.specs.Inputs.{Inputs}
-use Rattle.kernels.specs.Part.{placeAt, partRow, partSize, partsOf, Parts}
-use Rattle.kernels.specs.Butterfly.{folded, Room}
+use Rattle.whole.specs.Parts.{partRow, partsOf, Parts, joined, JoinRoom}
 use Rattle.kernels.specs.Dct.{DenseTable}
 use Rattle.kernels.proofs.Folds.{fold-fits, fold-left}
 
@@ -42,20 +41,6 @@ pub data State : ℕ → List ℤ → ℕ → ℕ → ℕ → Type 0 where
   s32-8 : State 32 dct32 8 4 2
   s32-16 : State 32 dct32 16 2 3
   s32-32 : State 32 dct32 32 1 4
-
--- what a part asks, by one test
-abbrev partsOk : ℕ → List ℤ → ℕ → ℕ → ℕ → Bool
-partsOk n t start step count =
-    eqb (length t) (n * n) && (below (λ i. ltb (placeAt start step i) n) count && below (λ m. ltb (partSize n t start step count m) 4096) n)
-
-parts-are : (n : ℕ) (t : List ℤ) (start step count : ℕ) → T (partsOk n t start step count) → Parts n t start step count
-parts-are n t start step count ok =
-    let r = and-right (eqb (length t) (n * n)) _ ok in
-    record {
-      square = eqb→eq (length t) (n * n) (and-left (eqb (length t) (n * n)) _ ok);
-      inside = λ i l. ltb→lt _ n (below-at (λ j. ltb (placeAt start step j) n) count (and-left (below (λ j. ltb (placeAt start step j) n) count) _ r) i l);
-      small = λ m l. ltb→lt _ 4096 (below-at (λ j. ltb (partSize n t start step count j) 4096) n (and-right (below (λ j. ltb (placeAt start step j) n) count) _ r) m l);
-    }
 
 -- ---- the start
 by-table : {n : ℕ} {t : List ℤ} → DenseTable n t → (P : ℕ → List ℤ → Type 0) → P 16 dct16 → P 32 dct32 → P n t
@@ -81,7 +66,7 @@ pub record Doubling (n : ℕ) (t : List ℤ) (h step d : ℕ) : Type 0 where
   pub some : 0 < h
   pub most : h ≤ 16
   pub inside : h + h ≤ n
-  pub sizes : T (below (λ k. leb (sizeOf (rowsBy n t d k) + sizeOf (between n t h step k)) 4000) h)
+  pub sizes : T (below (λ k. leb (sizeOf (rowsBy n t d k) + sizeOf (between n t h step k)) 4095) h)
   pub rows : {xs l : List ℤ} → Holds (h + h) (foldRow h (rowsBy n t d) (between n t h step)) xs l → Holds (h + h) (rowsBy n t (suc d)) xs l
   pub next : State n t (h + h) (step / 2) (suc d)
 
@@ -142,10 +127,10 @@ module _ {n : ℕ} {t s c : List ℤ} {step h : ℕ} (g : Grown n t s c step h) 
     odd : Holds h (between n t h step) s (partsOf h n t (step / 2) step h s)
     odd = record { is = refl }
 
-    pub grown-room : Within (2 ^ 19) s → Room (take (h + h) c) (partsOf h n t (step / 2) step h s)
-    grown-room w = fold-fits (take (h + h) c) half odd 4000 (2 ^ 19) w (turn .sizes) (lit< tt)
+    pub grown-room : Within (2 ^ 19) s → JoinRoom h (take (h + h) c) (partsOf h n t (step / 2) step h s)
+    grown-room w = fold-fits (take (h + h) c) half odd w (turn .sizes)
 
-    pub grown-more : {l : List ℤ} → l ≡ folded (take (h + h) c) (partsOf h n t (step / 2) step h s) → Grown n t s (l ++ drop (h + h) c) (step / 2) (h + h)
+    pub grown-more : {l : List ℤ} → l ≡ joined h (take (h + h) c) (partsOf h n t (step / 2) step h s) → Grown n t s (l ++ drop (h + h) c) (step / 2) (h + h)
     grown-more {l} e =
         let p = turn .rows (fold-left (take (h + h) c) half odd e) in
         let o = over (h + h) l c (held-length p) wide (g .long) in

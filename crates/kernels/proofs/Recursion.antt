@@ -3,7 +3,6 @@
 --     recurse-is-dct16      of a lent slice of 16 numbers: what `dct_recurse`, by its promise, leaves there is what `inv_dct16`, by its promise, leaves
 use mathlib.Core.Path.{_≡_, sym, ap, _∙_}
 use mathlib.Core.List.{List}
-use Prim.Native.Nat.{ℕ}
 use lib.IntN.{ℤ}
 use lib.ListN.{length}
 use contract.Lifetimes.{Lfts}

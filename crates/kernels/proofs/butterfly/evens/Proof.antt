@@ -1,10 +1,10 @@
 -- `kernels::butterfly::evens` meets its contract: the loop writes behind what it reads. Assumes nothing.
 use mathlib.Core.Path.{_∙_}
-use Prim.Native.Nat.{ℕ, _+_, _-_, _≤_}
+use Prim.Native.Nat.{_+_, _-_, _≤_}
 use native.Mathlib.Nat as N
 use native.Mathlib.Omega.{arith}
 use lib.IntN.{pos}
-use lib.ListN.{length, getD, take}
+use lib.ListN.{getD, take}
 use lib.Seq.{getD-take, length-take-le}
 use mir.Syntax.{w32}
 use mir.ValLaws.{toZ-ofZ}

@@ -1,14 +1,13 @@
 -- `kernels::butterfly::fold` meets its contract: after k turns the first k and the last k places hold the butterfly. Assumes nothing.
-use mathlib.Core.Path.{_≡_, refl, sym, ap, _∙_, subst}
+use mathlib.Core.Path.{_≡_, sym, ap, _∙_}
 use Prim.Native.Nat.{ℕ, _+_, _-_, _^_, _≤_, _<_}
 use native.Mathlib.Nat.{le-refl}
 use native.Mathlib.Omega.{arith}
-use lib.IntN.{ℤ, pos, _+ℤ_, _-ℤ_, natAbs}
+use lib.IntN.{ℤ, pos, _-ℤ_, natAbs}
 use lib.ListN.{length, getD, length-set}
 use mir.Syntax.{w32}
 use mir.Val.{toZ, ofZ}
 use mir.ValLaws.{toZ-ofZ}
-use borrow.Author.Needs.{needs}
 use Rattle.whole.specs.Sums.{foldAt}
 use Rattle.whole.proofs.Num.{Num, given, plus, minus, ask, read}
 use Rattle.whole.proofs.Inward.{Inward, inward-start, inward-more, inward-now, inward-done}

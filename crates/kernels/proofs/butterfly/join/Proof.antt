@@ -6,10 +6,10 @@ use native.Mathlib.Omega.{arith}
 use lib.IntN.{ℤ}
 use lib.ListN.{length, take, length-take}
 use borrow.Author.Needs.{needs}
+use Rattle.whole.specs.Parts.{joined, JoinRoom}
 use Rattle.whole.specs.Sums.{tab, dotZ, rowAt}
 use Rattle.whole.proofs.Fill.{length-tab}
-use Rattle.kernels.specs.Butterfly.{folded, Room}
-use Rattle.kernels.proofs.Front.{front-long, front-is, front-count, front-inside}
+use Rattle.kernels.proofs.Front.{front-is, front-count, front-inside}
 use borrow.Author.Needs.{needs}
 use Rattle.kernels.proofs.butterfly.join.Statement.{statement}
 use Rattle.kernels.proofs.butterfly.join.Tie as tie
@@ -45,14 +45,14 @@ slice-aggregate-fold c = let p = c .before .before .before in front-count (n p) 
 fold-requires : tie.Need-fold-requires
 fold-requires c κs =
     let p = c .before .before .before in
-    subst (λ (l : List ℤ). (length (out p) ≡ length l + length l) × Room (out p) l) (sym (sums-are p _))
-    (p .before .before .pre .0 .1 ∙ sym (ap (λ m. m + m) (length-tab (n p) (row p))), p .before .before .pre .1)
+    subst (λ (l : List ℤ). (length (out p) ≡ length l + length l) × JoinRoom (length l) (out p) l) (sym (sums-are p _))
+    (p .before .before .pre .0 .1 ∙ sym (ap (λ m. m + m) (length-tab (n p) (row p))), subst (λ (m : ℕ). JoinRoom m (out p) (tab (n p) (row p))) (sym (length-tab (n p) (row p))) (p .before .before .pre .1))
 
 same-length : tie.Need-same-length
 same-length c = search needs
 
 returns : tie.Need-returns
-returns c = let p = c .before .before .before .before .before in c .before .fold .ensures ∙ ap (folded (out p)) (sums-are p _)
+returns c = let p = c .before .before .before .before .before in c .before .fold .ensures ∙ ap (λ l. joined (length l) (out p) l) (sums-are p _) ∙ ap (λ m. joined m (out p) (tab (n p) (row p))) (length-tab (n p) (row p))
 
 pub join-spec : {M : Type 1} → statement M
 join-spec =

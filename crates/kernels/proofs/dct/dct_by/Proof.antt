@@ -1,10 +1,9 @@
 -- `kernels::dct::dct_by` meets its contract. The first h places hold the outputs of h inputs; each turn doubles them. Assumes nothing.
 use mathlib.Core.Path.{sym, _∙_}
-use Prim.Native.Nat.{ℕ, _+_, _-_}
+use Prim.Native.Nat.{_-_}
 use native.Mathlib.Omega.{arith}
-use lib.ListN.{length, length-take}
+use lib.ListN.{length-take}
 use lib.Seq.{length-take-le}
-use borrow.Author.Needs.{needs}
 use Rattle.kernels.proofs.Levels.{Grown, two-inside, first-parts, turn, wide, grown-start, grown-room, grown-more, grown-all}
 use Rattle.kernels.proofs.dct.dct_by.Statement.{statement}
 use Rattle.kernels.proofs.dct.dct_by.Tie as tie

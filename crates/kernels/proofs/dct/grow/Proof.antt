@@ -9,9 +9,8 @@ use lib.Seq.{length-take-le}
 use borrow.Author.Needs.{needs}
 use Rattle.whole.specs.Sums.{tab, dotZ}
 use Rattle.whole.proofs.Fill.{length-tab}
-use Rattle.kernels.specs.Butterfly.{folded, Room}
-use Rattle.kernels.proofs.Front.{front-long, front-is, front-count, front-inside}
-use Rattle.kernels.specs.Part.{partRow}
+use Rattle.kernels.proofs.Front.{front-is, front-count, front-inside}
+use Rattle.whole.specs.Parts.{partRow, joined, JoinRoom}
 use lib.Seq.{length-take-le}
 use borrow.Author.Needs.{needs}
 use Rattle.kernels.proofs.dct.grow.Statement.{statement}
@@ -54,14 +53,14 @@ slice-aggregate-fold c = let p = c .before .before .before in front-count (h p) 
 fold-requires : tie.Need-fold-requires
 fold-requires c κs =
     let p = c .before .before .before in
-    subst (λ (l : List ℤ). (length (out p) ≡ length l + length l) × Room (out p) l) (sym (odd-are p _))
-    (p .before .before .pre .0 .2 ∙ sym (ap (λ m. m + m) (length-tab (h p) (part p))), p .before .before .pre .1)
+    subst (λ (l : List ℤ). (length (out p) ≡ length l + length l) × JoinRoom (length l) (out p) l) (sym (odd-are p _))
+    (p .before .before .pre .0 .2 ∙ sym (ap (λ m. m + m) (length-tab (h p) (part p))), subst (λ (m : ℕ). JoinRoom m (out p) (tab (h p) (part p))) (sym (length-tab (h p) (part p))) (p .before .before .pre .1))
 
 same-length : tie.Need-same-length
 same-length c = search needs
 
 returns : tie.Need-returns
-returns c = let p = c .before .before .before .before .before in c .before .fold .ensures ∙ ap (folded (out p)) (odd-are p _)
+returns c = let p = c .before .before .before .before .before in c .before .fold .ensures ∙ ap (λ l. joined (length l) (out p) l) (odd-are p _) ∙ ap (λ m. joined m (out p) (tab (h p) (part p))) (length-tab (h p) (part p))
 
 pub grow-spec : {M : Type 1} → statement M
 grow-spec =

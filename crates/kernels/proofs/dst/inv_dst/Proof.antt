@@ -1,7 +1,6 @@
 -- `kernels::dst::inv_dst` meets its contract: the products of the rows, copied back in either order. Assumes nothing.
 use mathlib.Core.Path.{_≡_, sym, ap, _∙_}
 use mathlib.Core.List.{List, _++_}
-use Prim.Native.Nat.{ℕ}
 use native.Mathlib.Omega.{arith}
 use lib.IntN.{ℤ, pos}
 use lib.ListN.{length, take, length-take, length-append}

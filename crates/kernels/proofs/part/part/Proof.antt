@@ -14,7 +14,7 @@ use Rattle.whole.specs.Sums.{dotZ, termRow}
 use Rattle.whole.proofs.Sums.{term-step, term-room, within-all}
 use Rattle.whole.proofs.Tables.{row-end}
 use Rattle.whole.proofs.MulAdd.{Turn, cast-fits, product-fits, sum-fits, sum-is}
-use Rattle.kernels.specs.Part.{placeAt, weightAt, partRow}
+use Rattle.whole.specs.Parts.{placeAt, weightAt, partRow}
 use Rattle.kernels.proofs.part.part.Statement.{statement}
 use Rattle.kernels.proofs.part.part.Tie as tie
 

@@ -1,13 +1,13 @@
 -- `kernels::part::parts` meets its contract: the loop fills the places with the parts of the outputs. Assumes nothing.
 use mathlib.Core.Path.{refl, _∙_}
-use Prim.Native.Nat.{ℕ, _-_}
+use Prim.Native.Nat.{_-_}
 use native.Mathlib.Omega.{arith}
 use lib.IntN.{pos}
 use lib.ListN.{length}
 use Rattle.whole.specs.Sums.{dotZ}
 use Rattle.whole.proofs.Num.{back}
 use Rattle.whole.proofs.Fill.{Filling, fill-start, fill-more, fill-done}
-use Rattle.kernels.specs.Part.{partRow}
+use Rattle.whole.specs.Parts.{partRow}
 use Rattle.kernels.proofs.part.parts.Statement.{statement}
 use Rattle.kernels.proofs.part.parts.Tie as tie
 

@@ -1,12 +1,11 @@
 -- `kernels::sums::copy` meets its contract: the loop fills the places with the numbers of src. Assumes nothing.
 use mathlib.Core.Path.{_∙_}
-use Prim.Native.Nat.{ℕ, _-_}
+use Prim.Native.Nat.{_-_}
 use native.Mathlib.Omega.{arith}
 use lib.IntN.{pos}
 use lib.ListN.{length, getD}
 use mir.Syntax.{w32}
 use mir.ValLaws.{toZ-ofZ}
-use borrow.Author.Needs.{needs}
 use Rattle.whole.proofs.Fill.{Filling, fill-start, fill-more, fill-done, tab-list}
 use Rattle.kernels.proofs.sums.copy.Statement.{statement}
 use Rattle.kernels.proofs.sums.copy.Tie as tie

@@ -1,5 +1,5 @@
 -- `kernels::sums::copy_back` meets its contract: the loop fills the places with the numbers of src, from its end. Assumes nothing.
-use Prim.Native.Nat.{ℕ, _-_}
+use Prim.Native.Nat.{_-_}
 use native.Mathlib.Omega.{arith}
 use lib.IntN.{pos}
 use lib.ListN.{length, getD}

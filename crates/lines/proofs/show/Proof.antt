@@ -1,4 +1,4 @@
--- `chroma_run::show` is safe: the number or its opposite, in 64 bits, is not negative. Assumes nothing.
+-- `lines::show` is safe: the number or its opposite, in 64 bits, is not negative. Assumes nothing.
 use mathlib.Core.Path.{_≡_, sym, subst}
 use mathlib.Core.Bool.{true, false}
 use Prim.Native.Nat.{zero, suc}
@@ -12,8 +12,8 @@ use mir.Syntax.{w32, w64}
 use mir.Val.{SFits}
 use mir.Facts.{sfits-widen, fits-natAbs, sfits-lit}
 use mir.ValLaws.{toZ-ofZ}
-use Rattle.chroma_run.proofs.show.Statement.{statement}
-use Rattle.chroma_run.proofs.show.Tie as tie
+use Rattle.lines.proofs.show.Statement.{statement}
+use Rattle.lines.proofs.show.Tie as tie
 
 opposite : (z : ℤ) → SFits w32 z → SFits w64 (pos 0 -ℤ z)
 opposite z f = rw (+ℤ-idl (negℤ z)) (go z f)

@@ -1,9 +1,9 @@
--- `chroma_run::line` is safe and ends: i stays within the list. Assumes nothing.
+-- `lines::line` is safe and ends: i stays within the list. Assumes nothing.
 use Prim.Native.Nat.{_≤_, _-_}
 use borrow.Author.Needs.{needs}
 use lib.ListN.{length}
-use Rattle.chroma_run.proofs.line.Statement.{statement}
-use Rattle.chroma_run.proofs.line.Tie as tie
+use Rattle.lines.proofs.line.Statement.{statement}
+use Rattle.lines.proofs.line.Tie as tie
 
 abbrev Inv-loop : tie.InvT-loop
 Inv-loop list i₀ t3 i = i ≤ length list
