@@ -1,3 +1,4 @@
 pub mod Judging
 pub mod Floats
 pub mod Served
+pub mod Outcomes
