@@ -1,0 +1,124 @@
+// The nine calls under their C names, as include/panel.h declares them: each is the call that it wraps, with its promise.
+ghost use mathlib.Core.Path.{_≡_};
+ghost use Rattle.answers.specs.declared.Answer.{Answer};
+ghost use Rattle.pixels.specs.Calls.{addOf, floatOf, Exact};
+ghost use Rattle.chroma.specs.Chroma.{cctxOf};
+ghost use Rattle.wht.specs.Calls.{fwhtOf, iwhtOf};
+ghost use Rattle.lossless.specs.Step.{attempt, stepOf, undoOf};
+use answers::Answer;
+
+// Prediction plus residual as f32, row after row.
+#[no_mangle]
+pub extern "C" fn panel_inv_txfm_recon_f32(
+    out: &mut [f32],
+    coeff: &[i32],
+    txtp: usize,
+    tx: usize,
+    bd: u32,
+    pred: &[i32],
+) -> Answer
+    ensures { λ r. ⌜ (r, now (out .exit)) ≡ floatOf (now (out .entry)) (now (coeff .entry)) txtp tx bd (now (pred .entry)) ⌝ }
+    ensures { λ r. ⌜ (r .number ≡ 0 → Exact (now (out .exit)) (now (coeff .entry)) txtp tx bd (now (pred .entry))) ⌝ }
+{
+    pixels::inv_txfm_recon_f32(out, coeff, txtp, tx, bd, pred)
+}
+
+// The same, four lanes at a time.
+#[no_mangle]
+pub extern "C" fn panel_inv_txfm_recon_f32_lanes(
+    out: &mut [f32],
+    coeff: &[i32],
+    txtp: usize,
+    tx: usize,
+    bd: u32,
+    pred: &[i32],
+) -> Answer
+    ensures { λ r. ⌜ (r, now (out .exit)) ≡ floatOf (now (out .entry)) (now (coeff .entry)) txtp tx bd (now (pred .entry)) ⌝ }
+    ensures { λ r. ⌜ (r .number ≡ 0 → Exact (now (out .exit)) (now (coeff .entry)) txtp tx bd (now (pred .entry))) ⌝ }
+{
+    pixels::inv_txfm_recon_f32_lanes(out, coeff, txtp, tx, bd, pred)
+}
+
+// The residual added into a picture at its stride.
+#[no_mangle]
+pub extern "C" fn panel_inv_txfm_add(
+    dst: &mut [i32],
+    stride: usize,
+    coeff: &[i32],
+    txtp: usize,
+    tx: usize,
+    bd: u32,
+) -> Answer
+    ensures { λ r. ⌜ (r, now (dst .exit)) ≡ addOf (now (dst .entry)) stride (now (coeff .entry)) txtp tx bd ⌝ }
+{
+    pixels::inv_txfm_add(dst, stride, coeff, txtp, tx, bd)
+}
+
+// The same, four lanes at a time.
+#[no_mangle]
+pub extern "C" fn panel_inv_txfm_add_lanes(
+    dst: &mut [i32],
+    stride: usize,
+    coeff: &[i32],
+    txtp: usize,
+    tx: usize,
+    bd: u32,
+) -> Answer
+    ensures { λ r. ⌜ (r, now (dst .exit)) ≡ addOf (now (dst .entry)) stride (now (coeff .entry)) txtp tx bd ⌝ }
+{
+    pixels::inv_txfm_add_lanes(dst, stride, coeff, txtp, tx, bd)
+}
+
+// Chroma pairs, turned in their places.
+#[no_mangle]
+pub extern "C" fn panel_cctx(u: &mut [i32], v: &mut [i32], sina: i32, cosa: i32, bd: u32) -> Answer
+    ensures { λ r. ⌜ (r, (now (u .exit), now (v .exit))) ≡ cctxOf (now (u .entry)) (now (v .entry)) sina cosa bd ⌝ }
+{
+    chroma::cctx(u, v, sina, cosa, bd)
+}
+
+// The Walsh-Hadamard transform of sixteen numbers.
+#[no_mangle]
+pub extern "C" fn panel_fwht4x4(resid: &[i32], level: &mut [i32]) -> Answer
+    ensures { λ r. ⌜ (r, now (level .exit)) ≡ fwhtOf (now (resid .entry)) (now (level .entry)) ⌝ }
+{
+    wht::fwht4x4(resid, level)
+}
+
+// Its inverse.
+#[no_mangle]
+pub extern "C" fn panel_iwht4x4(level: &[i32], resid: &mut [i32]) -> Answer
+    ensures { λ r. ⌜ (r, now (resid .exit)) ≡ iwhtOf (now (level .entry)) (now (resid .entry)) ⌝ }
+{
+    wht::iwht4x4(level, resid)
+}
+
+// A lossless step on a 4x4 block of a plane.
+#[no_mangle]
+pub extern "C" fn panel_lossless_step(
+    depth: u32,
+    plane: &mut [i32],
+    stride: usize,
+    row: usize,
+    column: usize,
+    level: &[i32],
+) -> Answer
+    ensures { λ r. ⌜ (r, now (plane .exit)) ≡ stepOf (now (plane .entry)) (attempt depth stride row column (now (level .entry))) ⌝ }
+{
+    lossless::lossless_step(depth, plane, stride, row, column, level)
+}
+
+// Its undo, with the same arguments.
+#[no_mangle]
+pub extern "C" fn panel_lossless_undo(
+    depth: u32,
+    plane: &mut [i32],
+    stride: usize,
+    row: usize,
+    column: usize,
+    level: &[i32],
+) -> Answer
+    ensures { λ r. ⌜ (r, now (plane .exit)) ≡ undoOf (now (plane .entry)) (attempt depth stride row column (now (level .entry))) ⌝ }
+{
+    lossless::lossless_undo(depth, plane, stride, row, column, level)
+}

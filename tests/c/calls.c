@@ -1,0 +1,352 @@
+/* The nine calls of panel.h from C: the sums of document 01, each refusal of each call, null pointers with count 0.
+   What is expected is document 01's text, never an answer of the library. The last line is 'N passed, N failed'. */
+#include "panel.h"
+
+int printf(const char *format, ...);
+int memcmp(const void *a, const void *b, size_t count);
+
+typedef panel_answer add_call(int32_t *, size_t, size_t, const int32_t *, size_t, size_t, size_t, uint32_t);
+typedef panel_answer float_call(float *, size_t, const int32_t *, size_t, size_t, size_t, uint32_t, const int32_t *, size_t);
+typedef panel_answer wht_call(const int32_t *, size_t, int32_t *, size_t);
+typedef panel_answer block_call(uint32_t, int32_t *, size_t, size_t, size_t, size_t, const int32_t *, size_t);
+
+/* Everything that is lent, in one place, so that one comparison shows that a refused call left all of it alone. */
+static struct lent {
+    int32_t plane[4608], coeff[1032], pred[4104], u[8], v[8], from[20], to[20];
+    float out[4104];
+} now, before;
+
+static int passed, failed;
+
+static void expect(int ok, const char *call, const char *what) {
+    if (ok) {
+        passed++;
+    } else {
+        failed++;
+        printf("failed: %s: %s\n", call, what);
+    }
+}
+
+static void fill(int32_t *list, size_t count, int32_t value) {
+    for (size_t i = 0; i < count; i++) list[i] = value;
+}
+
+/* Samples of 100, coefficients and levels of 0, pairs of 0, an output that no pixel equals. */
+static void fresh(void) {
+    fill(now.plane, 4608, 100);
+    fill(now.coeff, 1032, 0);
+    fill(now.pred, 4104, 100);
+    fill(now.u, 8, 0);
+    fill(now.v, 8, 0);
+    fill(now.from, 20, 0);
+    fill(now.to, 20, 77);
+    for (size_t i = 0; i < 4104; i++) now.out[i] = -1.0f;
+}
+
+static int same(void) { return memcmp(&now, &before, sizeof now) == 0; }
+
+static int is(panel_answer a, uint32_t number, size_t place) { return a.number == number && a.place == place; }
+
+/* ---- The pixel calls */
+
+struct pixel_arguments {
+    size_t coeff_len, txtp, tx, stride, plane_len, pred_len, out_len;
+    uint32_t depth;
+};
+
+static const struct pixel_form {
+    const char *name;
+    add_call *add;
+    float_call *floats;
+} forms[] = {
+    {"panel_inv_txfm_add", panel_inv_txfm_add, NULL},
+    {"panel_inv_txfm_add_lanes", panel_inv_txfm_add_lanes, NULL},
+    {"panel_inv_txfm_recon_f32", NULL, panel_inv_txfm_recon_f32},
+    {"panel_inv_txfm_recon_f32_lanes", NULL, panel_inv_txfm_recon_f32_lanes},
+};
+
+static panel_answer pixels(const struct pixel_form *f, struct pixel_arguments a) {
+    if (f->add) return f->add(now.plane, a.plane_len, a.stride, now.coeff, a.coeff_len, a.txtp, a.tx, a.depth);
+    return f->floats(now.out, a.out_len, now.coeff, a.coeff_len, a.txtp, a.tx, a.depth, now.pred, a.pred_len);
+}
+
+/* Depth 8, prediction 100, one coefficient: the pixels are `rest`, but for the first `count` of row `row`. */
+static const struct sum {
+    const char *name;
+    size_t tx, w, h, txtp, index;
+    int32_t value, rest;
+    size_t row, count;
+    int32_t first[4];
+} sums[] = {
+    {"P1", 0, 4, 4, 0, 0, 15, 101, 0, 0, {0}},
+    {"P2", 0, 4, 4, 0, 0, 14, 100, 0, 0, {0}},
+    {"P3", 0, 4, 4, 0, 0, -18, 99, 0, 0, {0}},
+    {"P4", 0, 4, 4, 0, 0, -17, 100, 0, 0, {0}},
+    {"P5", 19, 4, 32, 0, 0, 256, 103, 0, 0, {0}},
+    {"P6", 0, 4, 4, 34, 0, 128, 100, 0, 4, {102, 106, 109, 111}},
+    {"P7", 0, 4, 4, 35, 4, 128, 100, 0, 4, {109, 98, 89, 94}},
+    {"P8", 5, 4, 8, 33, 1, 256, 100, 1, 1, {132}},
+    {"64x64, number 0 = 64", 4, 64, 64, 0, 0, 64, 101, 0, 0, {0}},
+    {"64x64, number 0 = 63", 4, 64, 64, 0, 0, 63, 100, 0, 0, {0}},
+};
+
+/* A plane three wider than the block, and numbers beyond those used, which no sample may be: neither read nor written. */
+static void try_sum(const struct pixel_form *f, const struct sum *s) {
+    const int32_t pad = -12345;
+    size_t cells = s->w * s->h, stride = s->w + 3, reach = (s->h - 1) * stride + s->w;
+    size_t used = (s->w < 32 ? s->w : 32) * (s->h < 32 ? s->h : 32);
+    struct pixel_arguments a = {used + 5, s->txtp, s->tx, stride, reach + 5, cells + 5, cells + 5, 8};
+    fresh();
+    fill(now.plane, reach + 5, pad);
+    fill(now.pred + cells, 5, pad);
+    fill(now.coeff + used, 5, 2147483647);
+    for (size_t r = 0; r < s->h; r++) fill(now.plane + r * stride, s->w, 100);
+    now.coeff[s->index] = s->value;
+    before = now;
+    for (size_t r = 0; r < s->h; r++) {
+        for (size_t x = 0; x < s->w; x++) {
+            int32_t pixel = r == s->row && x < s->count ? s->first[x] : s->rest;
+            if (f->add) before.plane[r * stride + x] = pixel;
+            if (f->floats) before.out[r * s->w + x] = (float)pixel;
+        }
+    }
+    panel_answer answer = pixels(f, a);
+    expect(is(answer, 0, 0) && same(), f->name, s->name);
+}
+
+/* Size 5, 4x8, has the rectangular scaling; every length is the shortest that is taken. */
+static const struct pixel_arguments usual = {32, 0, 5, 9, 67, 32, 32, 8};
+
+static void refuse(const struct pixel_form *f, struct pixel_arguments a, uint32_t number, size_t place, const char *what) {
+    before = now;
+    panel_answer answer = pixels(f, a);
+    expect(is(answer, number, place) && same(), f->name, what);
+    fresh();
+}
+
+static void pixel_refusals(const struct pixel_form *f) {
+    struct pixel_arguments a;
+    fresh();
+#define WITH(field, value, number, place, what) a = usual, a.field = value, refuse(f, a, number, place, what)
+    WITH(depth, 7, 1, 0, "depth 7");
+    WITH(depth, 13, 1, 0, "depth 13");
+    WITH(tx, 25, 2, 0, "size 25");
+    WITH(txtp, 256, 3, 0, "type 256");
+    WITH(txtp, 4, 4, 0, "a DDT along 4");
+    WITH(txtp, 192, 4, 1, "vertical kind 6");
+    WITH(txtp, 228, 4, 0, "neither kind is there");
+    WITH(coeff_len, 31, 6, 0, "31 coefficients");
+    if (f->add) {
+        WITH(stride, 3, 5, 0, "stride 3");
+        WITH(stride, 65537, 5, 0, "stride 65,537");
+        WITH(plane_len, 66, 6, 0, "a plane of 66");
+    } else {
+        WITH(pred_len, 31, 6, 0, "a prediction of 31");
+        WITH(out_len, 31, 6, 0, "an output of 31");
+    }
+    a = usual;
+    now.coeff[3] = 11864550;
+    refuse(f, a, 7, 3, "a coefficient of 11,864,550");
+    now.coeff[30] = -11864551;
+    now.coeff[31] = 11864550;
+    refuse(f, a, 7, 30, "a coefficient of -11,864,551");
+    now.plane[19] = now.pred[19] = 256;
+    now.plane[20] = now.pred[20] = -1;
+    refuse(f, a, 8, 19, "a sample of 256");
+    now.plane[66] = now.pred[31] = -1;
+    refuse(f, a, 8, f->add ? 66 : 31, "a last sample of -1");
+    now.coeff[31] = 11864550;
+    now.plane[0] = now.pred[0] = 256;
+    refuse(f, a, 7, 31, "a coefficient before a sample");
+    a.depth = 7;
+    a.tx = 25;
+    refuse(f, a, 1, 0, "a depth before a size");
+#undef WITH
+    a = usual;
+    now.coeff[0] = 11864549;
+    expect(is(pixels(f, a), 0, 0), f->name, "size 5 takes 11,864,549");
+    fresh();
+    a.tx = 0;
+    now.coeff[0] = 2147483647;
+    expect(is(pixels(f, a), 0, 0), f->name, "size 0 takes 2,147,483,647");
+    panel_answer nothing = f->add ? f->add(NULL, 0, 9, NULL, 0, 0, 5, 8) : f->floats(NULL, 0, NULL, 0, 0, 5, 8, NULL, 0);
+    expect(is(nothing, 6, 0), f->name, "null pointers");
+}
+
+/* ---- Chroma */
+
+static void chroma(size_t u_len, size_t v_len, int32_t sine, int32_t cosine, uint32_t depth, uint32_t number, size_t place, const char *what) {
+    before = now;
+    panel_answer answer = panel_cctx(now.u, u_len, now.v, v_len, sine, cosine, depth);
+    expect(is(answer, number, place) && same(), "panel_cctx", what);
+    fresh();
+}
+
+static void chroma_calls(void) {
+    const int32_t u[4] = {128, -128, 127, -127}, turned[4] = {1, -1, 0, 0};
+    fresh();
+    for (int i = 0; i < 4; i++) now.u[i] = u[i];
+    before = now;
+    for (int i = 0; i < 4; i++) before.u[i] = turned[i];
+    panel_answer answer = panel_cctx(now.u, 4, now.v, 4, 0, 1, 8);
+    expect(is(answer, 0, 0) && same(), "panel_cctx", "P9");
+    /* sin 256, cos 0: u' = -v, v' = u. */
+    fresh();
+    now.u[0] = 5, now.v[0] = 7;
+    before = now;
+    before.u[0] = -7, before.v[0] = 5;
+    answer = panel_cctx(now.u, 1, now.v, 1, 256, 0, 8);
+    expect(is(answer, 0, 0) && same(), "panel_cctx", "a quarter turn");
+    fresh();
+    chroma(4, 4, 0, 1, 7, 1, 0, "depth 7");
+    chroma(4, 4, 0, 1, 13, 1, 0, "depth 13");
+    chroma(4, 3, 0, 1, 8, 6, 0, "unequal lengths");
+    now.u[2] = 32768;
+    chroma(4, 4, 0, 1, 8, 7, 2, "u of 32,768");
+    now.u[3] = 32768, now.v[1] = -32769;
+    chroma(4, 4, 0, 1, 8, 7, 1, "v of -32,769");
+    chroma(4, 4, -257, 257, 8, 9, 0, "sine -257");
+    chroma(4, 4, 256, 257, 8, 9, 1, "cosine 257");
+    chroma(0, 0, 0, 1, 8, 0, 0, "no pairs");
+    expect(is(panel_cctx(NULL, 0, NULL, 0, 0, 1, 8), 0, 0), "panel_cctx", "null pointers");
+}
+
+/* ---- Walsh-Hadamard */
+
+/* P10 to P12: the residuals and their levels. */
+static const struct pair {
+    const char *name;
+    int32_t resid[16], level[16];
+} pairs[] = {
+    {"P10", {1, 2, 3, 4}, {3, -1, 0, 0, 2, -1, 0, -1, 2, -1, 0, -1, 2, -1, 0, -1}},
+    {"P11", {-1}, {0, 0, 0, 0, 0, -1, -1, -1, 0, -1, -1, -1, 0, -1, -1, -1}},
+    {"P12", {1, 1, 1, 1, 1, 1, 1, 1, 1, 1, 1, 1, 1, 1, 1, 1}, {4}},
+};
+
+static void load(int32_t *to, const int32_t *from) {
+    for (int i = 0; i < 16; i++) to[i] = from[i];
+}
+
+static void turn(wht_call *call, const char *name, size_t from, size_t to, uint32_t number, size_t place, const char *what) {
+    before = now;
+    panel_answer answer = call(now.from, from, now.to, to);
+    expect(is(answer, number, place) && same(), name, what);
+    fresh();
+}
+
+static void wht_refusals(wht_call *call, const char *name, int32_t end) {
+    fresh();
+    turn(call, name, 15, 16, 6, 0, "fifteen numbers read");
+    turn(call, name, 17, 16, 6, 0, "seventeen numbers read");
+    turn(call, name, 16, 15, 6, 0, "fifteen numbers written");
+    turn(call, name, 16, 17, 6, 0, "seventeen numbers written");
+    now.from[2] = end + 1, now.from[3] = -end - 1;
+    turn(call, name, 16, 16, 7, 2, "a number above the range");
+    now.from[15] = -end - 1;
+    turn(call, name, 16, 16, 7, 15, "a number below the range");
+    fill(now.from, 16, end);
+    expect(is(call(now.from, 16, now.to, 16), 0, 0), name, "the end of the range");
+    expect(is(call(NULL, 0, NULL, 0), 6, 0), name, "null pointers");
+}
+
+static void wht_sums(const struct pair *p) {
+    fresh();
+    load(now.from, p->resid);
+    before = now;
+    load(before.to, p->level);
+    panel_answer answer = panel_fwht4x4(now.from, 16, now.to, 16);
+    expect(is(answer, 0, 0) && same(), "panel_fwht4x4", p->name);
+    fresh();
+    load(now.from, p->level);
+    before = now;
+    load(before.to, p->resid);
+    answer = panel_iwht4x4(now.from, 16, now.to, 16);
+    expect(is(answer, 0, 0) && same(), "panel_iwht4x4", p->name);
+}
+
+/* ---- Lossless steps */
+
+struct block_arguments {
+    uint32_t depth;
+    size_t plane_len, stride, row, column, level_len;
+};
+
+/* A block at row 1, column 4 of a plane of stride 8, which reaches no further. */
+static const struct block_arguments block = {8, 40, 8, 1, 4, 16};
+
+static panel_answer gain(block_call *call, struct block_arguments a) {
+    return call(a.depth, now.plane, a.plane_len, a.stride, a.row, a.column, now.from, a.level_len);
+}
+
+static void leave(block_call *call, const char *name, struct block_arguments a, uint32_t number, size_t place, const char *what) {
+    before = now;
+    panel_answer answer = gain(call, a);
+    expect(is(answer, number, place) && same(), name, what);
+    fresh();
+}
+
+static void block_refusals(block_call *call, const char *name, int32_t edge) {
+    struct block_arguments a;
+    fresh();
+#define WITH(field, value, number, place, what) a = block, a.field = value, leave(call, name, a, number, place, what)
+    WITH(depth, 7, 1, 0, "depth 7");
+    WITH(depth, 13, 1, 0, "depth 13");
+    WITH(stride, 3, 5, 0, "stride 3");
+    WITH(stride, 65537, 5, 0, "stride 65,537");
+    WITH(plane_len, 39, 6, 0, "a plane of 39");
+    WITH(row, 65536, 6, 0, "row 65,536");
+    WITH(column, 5, 6, 0, "column 5");
+    WITH(column, (size_t)-4, 6, 0, "a column that wraps");
+    WITH(level_len, 15, 6, 0, "fifteen levels");
+    WITH(level_len, 17, 6, 0, "seventeen levels");
+    WITH(depth, 8, 0, 0, "sixteen zero levels");
+#undef WITH
+    a = block;
+    now.from[2] = 262145, now.from[3] = -262145;
+    leave(call, name, a, 7, 2, "a level of 262,145");
+    now.from[15] = -262145;
+    leave(call, name, a, 7, 15, "a level of -262,145");
+    now.plane[20] = 256, now.plane[21] = -1;
+    leave(call, name, a, 8, 20, "a sample of 256");
+    now.plane[39] = -1;
+    leave(call, name, a, 8, 39, "a last sample of -1");
+    now.from[0] = 4, now.plane[22] = edge, now.plane[39] = edge;
+    leave(call, name, a, 10, 22, "a sample that would leave");
+    now.plane[11] = -1, now.plane[16] = 999, now.plane[40] = -1;
+    leave(call, name, a, 0, 0, "bad samples outside the block");
+    expect(is(call(8, NULL, 0, 8, 1, 4, now.from, 16), 6, 0), name, "a null plane");
+    expect(is(call(8, now.plane, 40, 8, 1, 4, NULL, 0), 6, 0), name, "null levels");
+}
+
+/* A step by the levels of known residuals, then its undo, with the same arguments. */
+static void block_sums(const struct pair *p) {
+    struct lent start;
+    fresh();
+    load(now.from, p->level);
+    start = before = now;
+    for (int r = 0; r < 4; r++)
+        for (int x = 0; x < 4; x++) before.plane[(1 + r) * 8 + 4 + x] += p->resid[r * 4 + x];
+    panel_answer answer = gain(panel_lossless_step, block);
+    expect(is(answer, 0, 0) && same(), "panel_lossless_step", p->name);
+    before = start;
+    answer = gain(panel_lossless_undo, block);
+    expect(is(answer, 0, 0) && same(), "panel_lossless_undo", p->name);
+}
+
+int main(void) {
+    for (size_t f = 0; f < sizeof forms / sizeof *forms; f++) {
+        for (size_t s = 0; s < sizeof sums / sizeof *sums; s++) try_sum(&forms[f], &sums[s]);
+        pixel_refusals(&forms[f]);
+    }
+    chroma_calls();
+    for (size_t p = 0; p < sizeof pairs / sizeof *pairs; p++) {
+        wht_sums(&pairs[p]);
+        block_sums(&pairs[p]);
+    }
+    wht_refusals(panel_fwht4x4, "panel_fwht4x4", 65535);
+    wht_refusals(panel_iwht4x4, "panel_iwht4x4", 262144);
+    block_refusals(panel_lossless_step, "panel_lossless_step", 255);
+    block_refusals(panel_lossless_undo, "panel_lossless_undo", 0);
+    printf("%d passed, %d failed\n", passed, failed);
+    return failed != 0;
+}
