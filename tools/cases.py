@@ -305,7 +305,9 @@ def stray(rng, case):
 def nudge(rng, case):
     """A level changed a little, so that a step may leave the range."""
     if case.call in (8, 9) and len(case.slices[0]) == 16:
-        case.slices[0][rng.randrange(16)] += rng.choice((-5000, -300, -3, -1, 1, 3, 300, 5000))
+        k = rng.randrange(16)
+        changed = case.slices[0][k] + rng.choice((-5000, -300, -3, -1, 1, 3, 300, 5000))
+        case.slices[0][k] = min(max(changed, WHOLE[0]), WHOLE[1])
 
 
 HUGE = (2**31, 2**32, 2**32 + 8, 2**62, 2**63 - 1, 2**63, 2**64 - 4, 2**64 - 1)

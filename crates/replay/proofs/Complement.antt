@@ -4,7 +4,7 @@
 --     low-word, high-word             which words are numbers of 32 bits
 --     lower-half                      such a word and its lower half are one number
 use mathlib.Core.Path.{_≡_, refl, sym, ap, _∙_, subst}
-use mathlib.Core.Bool.{Bool, true, false, _&&_}
+use mathlib.Core.Bool.{Bool, true, false, _&&_, cond}
 use Prim.Native.Nat.{ℕ, zero, suc, _-_, _%_, _≤_, _<_}
 use native.Mathlib.Nat.{not-suc-le-zero}
 use native.Mathlib.Decide.{decLe, decLt}
@@ -21,11 +21,11 @@ use Rattle.whole.specs.Numbers.{inRange, lowest, highest}
 from-one : (n : ℕ) → subℕ (suc n) 1 ≡ pos n
 from-one n = pick (ltb (suc n) 1) (ltb→lt (suc n) 1)
   where
-    pick : (t : Bool) → (T t → suc n < 1) → mathlib.Core.Bool.cond t (negsuc (1 - suc (suc n))) (pos (suc n - 1)) ≡ pos n
+    pick : (t : Bool) → (T t → suc n < 1) → cond t (negsuc (1 - suc (suc n))) (pos (suc n - 1)) ≡ pos n
     pick true f = let h = f tt in absurd (omega arith)
     pick false f = ap pos (omega arith)
 
-pub flipped : (z : ℤ) → ltZ z (pos 0) ≡ true → negsuc 0 -ℤ z ≡ pos (mag z)
+flipped : (z : ℤ) → ltZ z (pos 0) ≡ true → negsuc 0 -ℤ z ≡ pos (mag z)
 flipped (pos n) e = absurd (not-suc-le-zero (ltb→lt n 0 (subst T (sym e) tt)))
 flipped (negsuc n) e = from-one n
 
@@ -69,6 +69,7 @@ module _ {z : ℤ} (f : SFits w32 z) where
   pub own-bits : Held false → T (nonNeg (toZ w32 (ofZ w32 z))) × (natAbs (toZ w32 (ofZ w32 z)) ≡ ofZ w32 z)
   own-bits e = rw (toZ-ofZ w32 z f) (above-bits z (rw (toZ-ofZ w32 z f) at e))
 
+-- two tests that pass together
 same-test : (a b c d : ℕ) → (a ≤ b → c ≤ d) → (c ≤ d → a ≤ b) → leb a b ≡ leb c d
 same-test a b c d f g = go (decLe a b)
   where

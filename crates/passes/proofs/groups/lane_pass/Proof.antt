@@ -16,19 +16,19 @@ use Rattle.passes.proofs.groups.lane_pass.Statement.{statement}
 use Rattle.passes.proofs.groups.lane_pass.Tie as tie
 
 abbrev Inv-loop : tie.InvT-loop
-Inv-loop work₀ count p s m n code i₀ work i = Lines (λ t k x. getD t (k * s + x * p) (pos 0)) m count (denseOf n code) work₀ work i × (i % 4 ≡ 0)
+Inv-loop work₀ count p s m n code line₀ work line = Lines (λ t k x. getD t (k * s + x * p) (pos 0)) m count (denseOf n code) work₀ work line × (line % 4 ≡ 0)
 
 abbrev μ-loop : tie.MeasureT-loop
-μ-loop work₀ count p s m n code i₀ work i = count - i
+μ-loop work₀ count p s m n code line₀ work line = count - line
 
 -- four lines more are there, and their places
-fit : (c : tie.In-loop Inv-loop μ-loop) → c .before .loop .i + 4 ≤ c .before .before .args .count
+fit : (c : tie.In-loop Inv-loop μ-loop) → c .before .loop .line + 4 ≤ c .before .before .args .count
 fit c = omega (arith, c .before .loop .inv .1, c .before .before .pre .0 .2, c .loop-test .taken)
 
-places : (c : tie.In-loop Inv-loop μ-loop) → let s = c .before .before in Places 4 (s .args .m) (spot (c .before .loop .i * s .args .s) (s .args .p) (s .args .s)) (length (c .before .loop .work))
+places : (c : tie.In-loop Inv-loop μ-loop) → let s = c .before .before in Places 4 (s .args .m) (spot (c .before .loop .line * s .args .s) (s .args .p) (s .args .s)) (length (c .before .loop .work))
 places c =
     let s = c .before .before in
-    subst (λ (n : ℕ). Places 4 (s .args .m) (spot (c .before .loop .i * s .args .s) (s .args .p) (s .args .s)) n) (sym (c .before .loop .inv .0 .long)) (group-places (s .args .s) (s .args .p) (c .before .loop .i) (fit c) (s .pre .0 .5))
+    subst (λ (n : ℕ). Places 4 (s .args .m) (spot (c .before .loop .line * s .args .s) (s .args .p) (s .args .s)) n) (sym (c .before .loop .inv .0 .long)) (group-places (s .args .s) (s .args .p) (c .before .loop .line) (fit c) (s .pre .0 .5))
 
 loop-holds : tie.Need-loop-holds Inv-loop μ-loop
 loop-holds c = (lines-start, refl)
@@ -36,7 +36,7 @@ loop-holds c = (lines-start, refl)
 mul-base : tie.Need-mul-base Inv-loop μ-loop
 mul-base c =
     let s = c .before .before in
-    let h : c .before .loop .i ≤ 32 = omega (arith, c .loop-test .taken, s .pre .0 .3) in
+    let h : c .before .loop .line ≤ 32 = omega (arith, c .loop-test .taken, s .pre .0 .3) in
     omega (arith, N.mul-le-mul-right (s .args .s) h, s .pre .0 .4)
 
 group-requires : tie.Need-group-requires Inv-loop μ-loop
@@ -47,8 +47,8 @@ group-requires c κs =
       group-bound (s .args .s) (s .args .p) (i .before .loop .inv .0) 4 (fit i) (2 ^ 19) (s .pre .1),
     )
 
-add-i : tie.Need-add-i Inv-loop μ-loop
-add-i c = omega arith
+add-line : tie.Need-add-line Inv-loop μ-loop
+add-line c = omega arith
 
 loop-less : tie.Need-loop-less Inv-loop μ-loop
 loop-less c = omega arith
@@ -58,7 +58,7 @@ loop-again c =
     let g = c .before in
     let i = g .before .before in
     let s = i .before .before in (
-      group-step (λ k x. k * s .args .s + x * s .args .p) (i .before .loop .inv .0) 4 (fit i) (spot (i .before .loop .i * s .args .s) (s .args .p) (s .args .s)) (λ l x a b. line-spot (s .args .s) (s .args .p) (i .before .loop .i) l x)
+      group-step (λ k x. k * s .args .s + x * s .args .p) (i .before .loop .inv .0) 4 (fit i) (spot (i .before .loop .line * s .args .s) (s .args .p) (s .args .s)) (λ l x a b. line-spot (s .args .s) (s .args .p) (i .before .loop .line) l x)
           (g .group .last .0) (g .group .kept .0) (λ k x j y a b d e f. s .pre .0 .5 .apart k x j y a d b e f .0) (g .group .ensures .0) (g .group .ensures .1),
       omega (arith, i .before .loop .inv .1),
     )
@@ -78,7 +78,7 @@ lane-pass-spec =
     loop-holds
     mul-base
     group-requires
-    add-i
+    add-line
     loop-less
     loop-again
     same-length
