@@ -1,0 +1,14 @@
+-- What is claimed. Each file opens with its statements in plain words.
+--     Answers    every call's answer and what it leaves
+--     Pixels     one lane and four lanes, dense table products, each pixel
+--     History    stepping back, and the wanted block
+--     Worked     P1 to P12
+-- The useless versions of document 01, "How much each call owes", and the edits that are refused for being one:
+--     a call that refuses everything                     crates/pixels/must-fail/refuses_everything.edit
+--     one fixed picture for all inputs                   crates/pixels/must-fail/one_fixed_picture.edit
+--     a step that touches nothing                        crates/lossless/must-fail/touches_nothing.edit
+--     a stepper that works once and then says Done       no call keeps anything from one to the next; History speaks of stepOf at each place
+pub mod Answers
+pub mod Pixels
+pub mod History
+pub mod Worked
