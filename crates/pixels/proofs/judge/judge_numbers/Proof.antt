@@ -37,22 +37,22 @@ bad-coefficient c =
     let s = i .before .before .before in
     c .first-coefficient .ensures ∙ ap (λ n. seek (coeffOk (i .is-scaled .result) (s .args .coeff .now)) 0 n) (count (i .before)) ∙ ap (λ b. seek (coeffOk b (s .args .coeff .now)) 0 (cut (s .args .w) * cut (s .args .h))) (i .is-scaled .ensures)
 
-bad-sample : (c : tie.After-first-outside) → let s = c .before .before .before .before .before .before .before in c .first-outside .result ≡ seek (cellOk (pos 0) (highest (s .args .bd)) (s .args .p .now) 0 (s .args .stride) (s .args .w)) 0 (s .args .h * s .args .w)
+bad-sample : (c : tie.After-first-sample) → let s = c .before .before .before .before .before .before .before in c .first-sample .result ≡ seek (cellOk (pos 0) (highest (s .args .bd)) (s .args .p .now) 0 (s .args .stride) (s .args .w)) 0 (s .args .h * s .args .w)
 bad-sample c =
     let h = c .before in
     let s = h .before .before .before .before .before .before in
-    c .first-outside .ensures ∙ ap (λ z. seek (cellOk (pos 0) z (s .args .p .now) 0 (s .args .stride) (s .args .w)) 0 (s .args .h * s .args .w)) (back (h .high-end .ok) ∙ h .high-end .ensures)
+    c .first-sample .ensures ∙ ap (λ z. seek (cellOk (pos 0) z (s .args .p .now) 0 (s .args .stride) (s .args .w)) 0 (s .args .h * s .args .w)) (back (h .high-end .ok) ∙ h .high-end .ensures)
 
 -- the search for a coefficient found none
 none : (c : tie.Else1) → let s = c .before .before .before .before .before in cut (s .args .w) * cut (s .args .h) ≤ seek (coeffOk (scaled (s .args .w) (s .args .h)) (s .args .coeff .now)) 0 (cut (s .args .w) * cut (s .args .h))
 none c = omega (arith, bad-coefficient (c .before), count (c .before .before .before), c .if1 .left)
 
 -- the cell that was found lies in the plane
-place : (c : tie.Then2) → let f = c .before in let s = f .before .before .before .before .before .before .before in (f .first-outside .result / s .args .w) * s .args .stride + f .first-outside .result % s .args .w < length (s .args .p .now)
+place : (c : tie.Then2) → let f = c .before in let s = f .before .before .before .before .before .before .before in (f .first-sample .result / s .args .w) * s .args .stride + f .first-sample .result % s .args .w < length (s .args .p .now)
 place c =
     let f = c .before in
     let s = f .before .before .before .before .before .before .before in
-    omega (arith, s .pre .3 (f .first-outside .result / s .args .w) (row-of (s .args .w) (s .args .h) (f .first-outside .result) (c .if2 .taken)), column-of (s .args .w) (s .args .h) (f .first-outside .result) (c .if2 .taken))
+    omega (arith, s .pre .3 (f .first-sample .result / s .args .w) (row-of (s .args .w) (s .args .h) (f .first-sample .result) (c .if2 .taken)), column-of (s .args .w) (s .args .h) (f .first-sample .result) (c .if2 .taken))
 
 whole-place : (stride w k : ℕ) → k / w * stride + k % w ≡ cellAt 0 stride w k
 whole-place stride w k = omega arith
@@ -86,10 +86,10 @@ returns c =
 high-end-requires : tie.Need-high-end-requires
 high-end-requires c κs = search needs
 
-first-outside-requires : tie.Need-first-outside-requires
-first-outside-requires c κs =
+first-sample-requires : tie.Need-first-sample-requires
+first-sample-requires c κs =
     let s = c .before .before .before .before .before .before in
-    (omega (arith, block s), λ r h. omega (arith, s .pre .3 r h))
+    (s .pre .1 .narrow, s .pre .1 .low, s .pre .3)
 
 mul-if2 : tie.Need-mul-if2
 mul-if2 c = omega (arith, block (c .before .before .before .before .before .before .before))
@@ -115,7 +115,7 @@ returns-2 c =
     let e = f .before .before in
     let s = e .before .before .before .before .before in
     c .refusal2 .ensures
-    ∙ ap (λ k. refused 8 k) (whole-place (s .args .stride) (s .args .w) (f .first-outside .result) ∙ ap (cellAt 0 (s .args .stride) (s .args .w)) (bad-sample f))
+    ∙ ap (λ k. refused 8 k) (whole-place (s .args .stride) (s .args .w) (f .first-sample .result) ∙ ap (cellAt 0 (s .args .stride) (s .args .w)) (bad-sample f))
     ∙ sym (search-opens 7 (cut (s .args .w) * cut (s .args .h)) (λ k. k) _ _ (none e)
     ∙ search-stops 8 (s .args .h * s .args .w) (cellAt 0 (s .args .stride) (s .args .w)) _ done (omega (arith, bad-sample f, c .before .if2 .taken)))
 
@@ -143,7 +143,7 @@ judge-numbers-spec =
     refusal-requires
     returns
     high-end-requires
-    first-outside-requires
+    first-sample-requires
     mul-if2
     div-refusal
     mul-refusal
