@@ -1,0 +1,6 @@
+-- Laws of words and decimal numbers. Each file opens with the list of its laws.
+pub mod Alike
+pub mod Decimals
+pub mod Splits
+pub mod Takes
+pub mod Written
