@@ -34,16 +34,17 @@ def build_oracle():
     return [str(program)]
 
 
-def replay():
-    """The command of the program under test: REPLAY, or target/bin/replay under the toolchain's loader and emulator."""
-    if os.environ.get("REPLAY"):
-        return shlex.split(os.environ["REPLAY"])
-    if not (ROOT / "target/bin/replay").is_file():
-        raise SystemExit("no target/bin/replay: build it with rt check replay, or name a program in REPLAY")
+def program(name):
+    """The command of a program under test: the variable of its name in capitals, or target/bin/ and its name under the
+    toolchain's loader and emulator."""
+    if os.environ.get(name.upper()):
+        return shlex.split(os.environ[name.upper()])
+    if not (ROOT / "target/bin" / name).is_file():
+        raise SystemExit(f"no target/bin/{name}: build it with rt check {name}, or name a program in {name.upper()}")
     page = subprocess.run(["rt", "doc"], capture_output=True, text=True, check=True).stdout.strip()
     tools = pathlib.Path(page).parent.parent / "on" / platform.machine() / "toolchain"
     emulator = tools / "bin/qemu-x86_64"
-    loader = [tools / "lib/ld-linux-x86-64.so.2", "--library-path", tools / "lib", ROOT / "target/bin/replay"]
+    loader = [tools / "lib/ld-linux-x86-64.so.2", "--library-path", tools / "lib", ROOT / "target/bin" / name]
     return [str(word) for word in ([emulator] if os.access(emulator, os.X_OK) else []) + loader]
 
 
@@ -59,3 +60,26 @@ def answers(command, cases):
     if status != 0:
         raise SystemExit(f"the Rust's side ended with status {status}")
     return list(stream.answers(data, cases))
+
+
+def with_rust(cases, answered):
+    """The model's answers with the Rust's in their places, and how many of these differ from the model's."""
+    places = [i for i, case in enumerate(cases) if case.call <= 6 and answered[i][:8] == bytes(8)]
+    rust = answers(build_oracle(), [cases[i] for i in places])
+    differences = 0
+    for i, answer in zip(places, rust):
+        if answer != answered[i]:
+            differences += 1
+            print(f"case {i}: {stream.describe(cases[i])}: {stream.describe_difference(cases[i], answer, answered[i])}")
+        answered[i] = answer
+    print(f"{len(places)} answers from the Rust, {differences} differ from the model's")
+    return answered, differences
+
+
+def write(folder, files):
+    """Writes a folder's files, by name and content."""
+    for name, data in files.items():
+        path = pathlib.Path(folder) / name
+        path.parent.mkdir(parents=True, exist_ok=True)
+        path.write_bytes(data)
+        print(f"{path}: {len(data)} bytes")

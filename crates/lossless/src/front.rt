@@ -7,7 +7,7 @@ ghost use Rattle.lossless.specs.Step.{place, attempt, fits, front};
 use answers::Answer;
 
 // Whether lo <= n <= hi.
-fn between(n: usize, lo: usize, hi: usize) -> bool
+pub fn between(n: usize, lo: usize, hi: usize) -> bool
     ensures { λ r. ⌜ r ≡ (leb lo n && leb n hi) ⌝ }
 {
     lo <= n && n <= hi

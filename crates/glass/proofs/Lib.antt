@@ -1,0 +1,9 @@
+-- Laws of the program.
+--     Tails      parts at the ends of a list
+--     Planes     samples, and blocks that stand on a screen
+--     Entries    steps and their entries
+--     Stepping   steps that are taken, remembered and taken back
+pub mod Tails
+pub mod Planes
+pub mod Entries
+pub mod Stepping

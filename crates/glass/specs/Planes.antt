@@ -1,0 +1,52 @@
+-- The samples of a screen: rows of width, one after another. Definitions only.
+--     natural z                          z, or 0 where it is negative
+--     standsOf, blockStands              whether a block of w by h, or of a size number, stands on a screen
+--     blockOf                            an AV2 block added at a row and column: the answer, and the plane as it is left.
+--                                        A block that leaves the screen is answered as on a plane of no sample
+--     onRoom n room r                    a call on the first n samples of a room: its answer, and the room as it is left
+--     drawnOf                            a block on a screen: row, column, size, type and coefficients from a list of numbers
+--     Differ r a b                       a and b first differ at r, or are the same list and r is its length
+use mathlib.Core.Path.{_≡_}
+use mathlib.Core.Bool.{Bool, _&&_, cond}
+use mathlib.Core.List.{List, [], _++_}
+use Prim.Native.Nat.{ℕ, _+_, _*_, _<_}
+use lib.Dec.{leb}
+use lib.IntN.{ℤ, pos, negsuc}
+use lib.ListN.{length, getD, take, drop}
+use Rattle.answers.specs.declared.Answer.{Answer}
+use Rattle.lossless.specs.Gains.{numbers}
+use Rattle.pixels.specs.Calls.{wOf, hOf, addOf}
+
+abbrev pub natural : ℤ → ℕ
+natural (pos n) = n
+natural (negsuc n) = 0
+
+abbrev pub standsOf : ℕ → ℕ → ℕ → ℕ → ℕ → ℕ → Bool
+standsOf width height row column w h = leb (column + w) width && leb (row + h) height
+
+abbrev pub blockStands : ℕ → ℕ → ℕ → ℕ → ℕ → Bool
+blockStands width height row column tx = leb tx 24 && standsOf width height row column (wOf tx) (hOf tx)
+
+-- a call on the samples from start on
+abbrev pub fromOn : ℕ → List ℤ → Answer × List ℤ → Answer × List ℤ
+fromOn start p r = (r .0, take start p ++ r .1)
+
+unfoldable pub blockOf : List ℤ → ℕ → ℕ → ℕ → ℕ → List ℤ → ℕ → ℕ → ℕ → Answer × List ℤ
+blockOf p width height row column cs txtp tx depth =
+    cond (blockStands width height row column tx)
+    (fromOn (row * width + column) p (addOf (drop (row * width + column) p) width cs txtp tx depth))
+    (addOf [] width cs txtp tx depth .0, p)
+
+-- a call on the first n samples of a room
+abbrev pub onRoom : ℕ → List ℤ → Answer × List ℤ → Answer × List ℤ
+onRoom n room r = (r .0, r .1 ++ drop n room)
+
+abbrev pub drawnOf : ℕ → ℕ → ℕ → List ℤ → List ℤ → Answer × List ℤ
+drawnOf width height depth list room =
+    onRoom (width * height) room
+    (blockOf (take (width * height) room) width height (natural (numbers list 0)) (natural (numbers list 1)) (drop 4 list) (natural (numbers list 3)) (natural (numbers list 2)) depth)
+
+pub record Differ (r : ℕ) (a b : List ℤ) : Type 0 where
+  pub before : (k : ℕ) → k < r → getD a k (pos 0) ≡ getD b k (pos 0)
+  pub there : r < length a → getD a r (pos 0) ≡ getD b r (pos 0) → ⊥
+  pub same : length a ≡ r → a ≡ b

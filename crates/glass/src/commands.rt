@@ -1,0 +1,292 @@
+// What each command does. Each takes the screen as it is and the numbers of its line, and gives the screen as it is then.
+ghost use mathlib.Core.List.{List};
+ghost use mathlib.Core.Path.{_≡_};
+ghost use Prim.Native.Nat.{_-_, _*_, _^_, _≤_, _<_};
+ghost use lib.IntN.{ℤ, pos};
+ghost use lib.ListN.{length};
+ghost use Rattle.lossless.specs.Wanted.{Samples};
+ghost use Rattle.glass.specs.Screens.{Sound, Back, Held, Onward, possibleOf};
+use crate::picture;
+use crate::plane;
+use crate::plane::natural;
+use crate::say;
+use crate::steps;
+use lossless::front::between;
+
+// A screen; one of width 0 is none.
+pub struct Screen {
+    pub width: usize,
+    pub height: usize,
+    pub depth: u32,
+    pub steps: usize, // The steps that can be taken back.
+    pub kept: bool, // Whether there is a kept copy.
+}
+
+// A screen with other steps.
+fn with_steps(s: Screen, steps: usize) -> Screen
+    ensures { λ r. ⌜ (r .width ≡ s .width) × (r .height ≡ s .height) × (r .depth ≡ s .depth) × (r .steps ≡ steps) ⌝ }
+{
+    Screen {
+        width: s.width,
+        height: s.height,
+        depth: s.depth,
+        steps,
+        kept: s.kept,
+    }
+}
+
+// Whether a screen may have these sides and this depth.
+fn possible(width: usize, height: usize, depth: usize) -> bool
+    ensures { λ r. ⌜ r ≡ possibleOf width height depth ⌝ }
+{
+    between(width, 4, 256) && (between(height, 4, 256) && between(depth, 8, 12))
+}
+
+// The middle grey.
+fn grey(depth: usize) -> i32
+    requires { ⌜ (8 ≤ depth) × (depth ≤ 12) ⌝ }
+    ensures { λ r. ⌜ r ≡ pos (2 ^ (depth - 1)) ⌝ }
+{
+    match depth {
+        8 => 128,
+        9 => 256,
+        10 => 512,
+        11 => 1024,
+        _ => 2048,
+    }
+}
+
+fn say_screen(line: usize, width: usize, height: usize, depth: usize) {
+    say::start(line);
+    say::text(b"screen of ");
+    say::number(width);
+    say::text(b" by ");
+    say::number(height);
+    say::text(b", depth ");
+    say::number(depth);
+    say::text(b"\n");
+}
+
+// A new screen, all of the middle grey.
+fn new_screen(line: usize, width: usize, height: usize, depth: usize, room: &mut [i32]) -> Screen
+    requires { ⌜ (width ≤ 256) × (height ≤ 256) × (8 ≤ depth) × (depth ≤ 12) × (65536 ≤ length (now room)) ⌝ }
+    ensures { λ r. ⌜ Sound r × (r .steps ≡ 0) ⌝ }
+{
+    let n = width * height;
+    plane::fill(&mut room[..n], grey(depth));
+    say_screen(line, width, height, depth);
+    Screen {
+        width,
+        height,
+        depth: depth as u32,
+        steps: 0,
+        kept: false,
+    }
+}
+
+pub fn begin(line: usize, s: Screen, list: &[i32], room: &mut [i32]) -> Screen
+    requires { ⌜ Sound s × (1028 ≤ length (now list)) × (65536 ≤ length (now room)) ⌝ }
+    ensures { λ r. ⌜ Sound r × Onward s r (now (room .entry)) (now (room .exit)) ⌝ }
+{
+    let width = natural(list[0]);
+    let height = natural(list[1]);
+    let depth = natural(list[2]);
+    if !possible(width, height, depth) {
+        say::error(line, b"sides are 4 to 256, depth 8 to 12");
+        return s;
+    }
+    new_screen(line, width, height, depth, room)
+}
+
+// How many coefficients a block has; as many as any, where there is no such size.
+fn coefficients(tx: usize) -> usize
+    ensures { λ r. ⌜ r ≤ 1024 ⌝ }
+{
+    if 24 < tx {
+        return 1024;
+    }
+    let size = tables::size::size_of(tx);
+    tables::size::cut_of(size.w) * tables::size::cut_of(size.h)
+}
+
+// An AV2 block.
+pub fn block(line: usize, s: Screen, list: &mut [i32], count: usize, room: &mut [i32]) -> Screen
+    requires { ⌜ Sound s × (1028 ≤ length (now list)) × (count ≤ length (now list)) × (65536 ≤ length (now room)) ⌝ }
+    ensures { λ r. ⌜ Sound r × Onward s r (now (room .entry)) (now (room .exit)) ⌝ }
+{
+    let most = coefficients(natural(list[2]));
+    if most + 4 < count {
+        say::error_of(line, b"the block has ", most, b" coefficients");
+        return s;
+    }
+    plane::fill(&mut list[count..], 0);
+    let r = plane::draw(s.width, s.height, s.depth, list, room);
+    say::at(line, b"block", natural(list[0]), natural(list[1]));
+    if r.number != 0 {
+        say::refused(r);
+        return s;
+    }
+    say::text(b": done\n");
+    with_steps(s, 0)
+}
+
+// A change into a wanted block whose samples are in range, while there is room for a step.
+fn changed(
+    line: usize,
+    s: Screen,
+    row: i32,
+    column: i32,
+    wanted: &[i32],
+    room: &mut [i32],
+    past: &mut [i32],
+) -> Screen
+    requires { ⌜ Sound s × (s .steps < 4096) × Samples (s .depth) (now wanted) ⌝ }
+    requires { ⌜ (65536 ≤ length (now room)) × (73728 ≤ length (now past)) ⌝ }
+    requires { ⌜ Held s (now room) (now past) ⌝ }
+    ensures { λ r. ⌜ Sound r × Held r (now (room .exit)) (now (past .exit)) ⌝ }
+{
+    let mut entry = [0i32; 18];
+    entry[0] = row;
+    entry[1] = column;
+    let r = steps::step(s.width, s.height, s.depth, wanted, &mut entry, room);
+    say::at(line, b"change", natural(row), natural(column));
+    if r.number != 0 {
+        say::refused(r);
+        return s;
+    }
+    steps::remember(past, s.steps, &entry);
+    say::steps(s.steps + 1);
+    with_steps(s, s.steps + 1)
+}
+
+// A change into a wanted block.
+pub fn change(
+    line: usize,
+    s: Screen,
+    row: i32,
+    column: i32,
+    wanted: &[i32],
+    room: &mut [i32],
+    past: &mut [i32],
+) -> Screen
+    requires { ⌜ Sound s × (length (now wanted) ≡ 16) ⌝ }
+    requires { ⌜ (65536 ≤ length (now room)) × (73728 ≤ length (now past)) ⌝ }
+    requires { ⌜ Held s (now room) (now past) ⌝ }
+    ensures { λ r. ⌜ Sound r × Held r (now (room .exit)) (now (past .exit)) ⌝ }
+{
+    let hi = ranges::high_end(s.depth);
+    let bad = wht::first_bad(wanted, 0, hi);
+    if bad < 16 {
+        say::error_sample(line, bad + 3, natural(hi));
+        return s;
+    }
+    if steps::MOST <= s.steps {
+        say::error(line, b"no room for another step");
+        return s;
+    }
+    changed(line, s, row, column, wanted, room, past)
+}
+
+// The newest of k steps, taken back. It is never refused.
+fn undo_one(
+    line: usize,
+    width: usize,
+    height: usize,
+    depth: u32,
+    k: usize,
+    room: &mut [i32],
+    past: &[i32],
+)
+    requires { ⌜ (width ≤ 256) × (height ≤ 256) × (0 < k) × (k ≤ 4096) ⌝ }
+    requires { ⌜ (65536 ≤ length (now room)) × (73728 ≤ length (now past)) ⌝ }
+    requires { ⌜ Back (width * height) depth width k (now room) (now past) ⌝ }
+    ensures { λ _. ⌜ Back (width * height) depth width (k - 1) (now (room .exit)) (now (past .entry)) ⌝ }
+{
+    let a = 18 * (k - 1);
+    let e = a + 18;
+    let r = steps::back(width, height, depth, &past[a..e], room);
+    check::expect(r.number == 0);
+    say::at(line, b"undo", natural(past[a]), natural(past[a + 1]));
+    say::steps(k - 1);
+}
+
+// The newest steps, taken back, newest first.
+fn undo_some(line: usize, s: Screen, count: usize, room: &mut [i32], past: &[i32]) -> Screen
+    requires { ⌜ Sound s × (count ≤ s .steps) ⌝ }
+    requires { ⌜ (65536 ≤ length (now room)) × (73728 ≤ length (now past)) ⌝ }
+    requires { ⌜ Held s (now room) (now past) ⌝ }
+    ensures { λ r. ⌜ Sound r × Held r (now (room .exit)) (now (past .entry)) ⌝ }
+{
+    let mut k = s.steps;
+    let mut left = count;
+    while 0 < left {
+        undo_one(line, s.width, s.height, s.depth, k, room, past);
+        k -= 1;
+        left -= 1;
+    }
+    with_steps(s, k)
+}
+
+fn undo_nothing(line: usize, steps: usize) {
+    say::start(line);
+    say::text(b"undo of nothing, steps ");
+    say::number(steps);
+    say::text(b"\n");
+}
+
+pub fn undo(line: usize, s: Screen, count: usize, room: &mut [i32], past: &[i32]) -> Screen
+    requires { ⌜ Sound s ⌝ }
+    requires { ⌜ (65536 ≤ length (now room)) × (73728 ≤ length (now past)) ⌝ }
+    requires { ⌜ Held s (now room) (now past) ⌝ }
+    ensures { λ r. ⌜ Sound r × Held r (now (room .exit)) (now (past .entry)) ⌝ }
+{
+    if s.steps < count {
+        say::error_of(line, b"no more than ", s.steps, b" steps");
+        return s;
+    }
+    if count == 0 {
+        undo_nothing(line, s.steps);
+        return s;
+    }
+    undo_some(line, s, count, room, past)
+}
+
+pub fn show(line: usize, s: Screen, room: &[i32])
+    requires { ⌜ Sound s × (65536 ≤ length (now room)) ⌝ }
+{
+    say::event(line, b"show");
+    picture::show(room, s.width, s.height, s.depth);
+}
+
+pub fn keep(line: usize, s: Screen, room: &[i32], kept: &mut [i32]) -> Screen
+    requires { ⌜ Sound s × (65536 ≤ length (now room)) × (65536 ≤ length (now kept)) ⌝ }
+    ensures { λ r. ⌜ Sound r × ((room past : List ℤ) → Held s room past → Held r room past) ⌝ }
+{
+    let n = s.width * s.height;
+    plane::copy(&room[..n], &mut kept[..n]);
+    say::event(line, b"keep");
+    Screen {
+        width: s.width,
+        height: s.height,
+        depth: s.depth,
+        steps: s.steps,
+        kept: true,
+    }
+}
+
+pub fn compare(line: usize, s: Screen, room: &[i32], kept: &[i32])
+    requires { ⌜ Sound s × (0 < s .width) × (65536 ≤ length (now room)) × (65536 ≤ length (now kept)) ⌝ }
+{
+    if !s.kept {
+        say::error(line, b"nothing kept");
+        return;
+    }
+    let n = s.width * s.height;
+    let d = plane::first_difference(&room[..n], &kept[..n]);
+    if d == n {
+        say::event(line, b"compare: equal");
+        return;
+    }
+    say::at(line, b"compare: first differs", d / s.width, d % s.width);
+    say::text(b"\n");
+}

@@ -1,0 +1,202 @@
+#!/usr/bin/env python3
+"""Usage: glass_model.py < SCRIPT > ANSWER: answer a script of docs/GLASS.md, by model.py for the calls."""
+
+import collections
+import re
+import sys
+
+sys.dont_write_bytecode = True
+
+import model
+from stream import Case
+
+TOO_LONG = 262_144
+MOST_NUMBERS = 1028
+MOST_STEPS = 4096
+LARGEST = 2**31 - 1
+
+REFUSALS = {
+    1: "depth",
+    2: "size number",
+    3: "type number",
+    4: "kind",
+    5: "stride",
+    6: "length or place",
+    7: "coefficient or level",
+    8: "sample",
+    10: "sample after the step",
+}
+
+# The counts of numbers that a command takes, how many of the first are never negative, and what it takes.
+Form = collections.namedtuple("Form", "counts named takes")
+
+FORMS = {
+    "screen": Form(range(3, 4), 3, "WIDTH HEIGHT DEPTH"),
+    "block": Form(range(4, MOST_NUMBERS + 1), 4, "ROW COLUMN SIZE TYPE and coefficients"),
+    "change": Form(range(18, 19), 2, "ROW COLUMN and 16 samples"),
+    "undo": Form(range(2), 1, "a count or nothing"),
+    "show": Form(range(1), 0, "nothing"),
+    "keep": Form(range(1), 0, "nothing"),
+    "compare": Form(range(1), 0, "nothing"),
+}
+
+WORD = re.compile(rb"[^ \t\r]+")
+NUMBER = re.compile(rb"(-?)0*([0-9]{1,10})")
+
+Step = collections.namedtuple("Step", "row column levels")
+
+
+class Bad(Exception):
+    """A bad line, with its message."""
+
+
+def number_of(place, word):
+    match = NUMBER.fullmatch(word)
+    value = int(b"".join(match.groups())) if match else LARGEST + 1
+    if abs(value) > LARGEST:
+        raise Bad(f"number {place} is no whole number from {-LARGEST} to {LARGEST}")
+    return value
+
+
+def command_of(words):
+    """The command of a line and its numbers."""
+    name = words[0].decode("latin-1")
+    if name not in FORMS:
+        raise Bad("no such command")
+    numbers = [number_of(place, word) for place, word in enumerate(words[1 : MOST_NUMBERS + 1], 1)]
+    if len(words) > MOST_NUMBERS + 1:
+        raise Bad(f"more than {MOST_NUMBERS} numbers")
+    form = FORMS[name]
+    if len(numbers) not in form.counts:
+        raise Bad(f"{name} takes {form.takes}")
+    for place, value in enumerate(numbers[: form.named], 1):
+        if value < 0:
+            raise Bad(f"number {place} is negative")
+    return name, numbers
+
+
+def refused(number, place):
+    return f"refused {number} at {place}, {REFUSALS[number]}"
+
+
+class Glass:
+    """A screen with its steps. Each command gives its lines; outcome answers the calls, as model.outcome does."""
+
+    def __init__(self, outcome=model.outcome):
+        self.outcome = outcome
+        self.plane = None
+
+    def obey(self, name, numbers):
+        if name != "screen" and self.plane is None:
+            raise Bad("no screen yet")
+        return getattr(self, name)(*numbers)
+
+    def screen(self, width, height, depth):
+        if not (4 <= width <= 256 and 4 <= height <= 256 and 8 <= depth <= 12):
+            raise Bad("sides are 4 to 256, depth 8 to 12")
+        self.width, self.height, self.depth = width, height, depth
+        self.plane = [2 ** (depth - 1)] * (width * height)
+        self.steps = []
+        self.kept = None
+        return [f"screen of {width} by {height}, depth {depth}"]
+
+    def inside(self, row, column, width, height):
+        return column + width <= self.width and row + height <= self.height
+
+    def block(self, row, column, size, type, *coefficients):
+        known = size < 25
+        count = model.used(size)[0] if known else len(coefficients)
+        if len(coefficients) > count:
+            raise Bad(f"the block has {count} coefficients")
+        start = row * self.width + column
+        slices = [[*coefficients, *[0] * (count - len(coefficients))], self.plane[start:]]
+        number, place, after = self.outcome(Case(3, [self.depth, size, type, self.width], slices))
+        if known and not 1 <= number <= 5 and not self.inside(row, column, *model.width_and_height(size)):
+            number, place = 6, 0
+        if number == 0:
+            self.plane[start:] = after.slices[1]
+            self.steps = []
+        return [f"block at row {row}, column {column}: {refused(number, place) if number else 'done'}"]
+
+    def step(self, call, step):
+        arguments = [self.depth, self.width, step.row, step.column]
+        number, place, after = self.outcome(Case(call, arguments, [step.levels, self.plane]))
+        self.plane = after.slices[1]
+        return number, place
+
+    def change(self, row, column, *samples):
+        top = 2**self.depth - 1
+        for place, sample in enumerate(samples, 3):
+            if not 0 <= sample <= top:
+                raise Bad(f"number {place} is outside 0 to {top}")
+        if len(self.steps) == MOST_STEPS:
+            raise Bad("no room for another step")
+        number, place = 6, 0
+        if self.inside(row, column, 4, 4):
+            present = [self.plane[at] for at in model.places(self.width, row, column)]
+            difference = [s - p for s, p in zip(samples, present)]
+            step = Step(row, column, self.outcome(Case(6, [], [difference, [0] * 16]))[2].slices[1])
+            number, place = self.step(8, step)
+        if number == 0:
+            self.steps.append(step)
+        told = refused(number, place) if number else f"done, steps {len(self.steps)}"
+        return [f"change at row {row}, column {column}: {told}"]
+
+    def undo(self, count=1):
+        if count > len(self.steps):
+            raise Bad(f"no more than {len(self.steps)} steps")
+        if count == 0:
+            return [f"undo of nothing, steps {len(self.steps)}"]
+        return [self.undo_newest() for _ in range(count)]
+
+    def undo_newest(self):
+        step = self.steps.pop()
+        if self.step(9, step) != model.DONE:
+            raise AssertionError("an undo of the newest step is never refused")
+        return f"undo at row {step.row}, column {step.column}: done, steps {len(self.steps)}"
+
+    def show(self):
+        return ["show" + self.picture()]
+
+    def picture(self):
+        lines = ["", "P2", f"{self.width} {self.height}", str(2**self.depth - 1)]
+        for at in range(0, len(self.plane), self.width):
+            row = [f" {sample}" for sample in self.plane[at : at + self.width]]
+            lines += ["".join(row[x : x + 14]) for x in range(0, self.width, 14)]
+        return "\n".join(lines)
+
+    def keep(self):
+        self.kept = list(self.plane)
+        return ["keep"]
+
+    def compare(self):
+        if self.kept is None:
+            raise Bad("nothing kept")
+        for at, (now, then) in enumerate(zip(self.plane, self.kept)):
+            if now != then:
+                return [f"compare: first differs at row {at // self.width}, column {at % self.width}"]
+        return ["compare: equal"]
+
+
+def answer(script, glass=None):
+    """What glass writes for the bytes of a script."""
+    if len(script) >= TOO_LONG:
+        return f"# error: script of {TOO_LONG} bytes or more; nothing done\n".encode()
+    glass = glass or Glass()
+    told = []
+    for number, line in enumerate(script.split(b"\n"), 1):
+        words = WORD.findall(line)
+        if not words or words[0].startswith(b"#"):
+            continue
+        try:
+            events = glass.obey(*command_of(words))
+        except Bad as bad:
+            events = [f"error: {bad}; nothing changed"]
+        told += [f"# line {number}: {event}\n" for event in events]
+    return "".join(told).encode()
+
+
+if __name__ == "__main__":
+    if len(sys.argv) != 1:
+        sys.exit(__doc__.splitlines()[0])
+    sys.stdout.buffer.write(answer(sys.stdin.buffer.read()))
