@@ -1,5 +1,2 @@
--- The chroma call.
---     Chroma    the call's rule
---     Cases     document 01's worked case, by computation
+-- The chroma call's rule.
 pub mod Chroma
-pub mod Cases

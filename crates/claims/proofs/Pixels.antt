@@ -20,7 +20,6 @@ use Rattle.whole.proofs.Cells.{cell-row, cell-column}
 use Rattle.whole.proofs.Fill.{tab-at}
 use Rattle.answers.specs.declared.Answer.{Answer}
 use Rattle.answers.proofs.Verdicts.{taken}
-use Rattle.tables.specs.declared.size.Size.{Size}
 use Rattle.tables.specs.Sizes.{sizeAt, cut, scaled}
 use Rattle.tables.specs.Kinds.{horOf, verOf}
 use Rattle.tables.specs.Dense.{denseOf}

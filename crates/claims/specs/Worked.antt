@@ -1,16 +1,32 @@
 -- P1 to P12 of document 01, "Sums on both sides of an edge", as one table. Definitions only; proofs/Worked shows that the definitions yield its results.
+--     callOf       the add call at depth 8 on a plane of 100s that is as large as the block, with one coefficient that isn't 0
 --     Case         a call and the slices that it is to leave: of pixels, of chroma pairs, of the WHT
 --     outcome      the call's answer, and the slices that it leaves
 --     wanted       the slices that the table has
 --     worked       the table
+use mathlib.Core.Bool.{cond}
 use mathlib.Core.List.{List, [], _∷_, _++_}
-use Prim.Native.Nat.{ℕ}
+use Prim.Native.Nat.{ℕ, _*_}
+use lib.Dec.{eqb}
 use lib.IntN.{ℤ, pos, negsuc}
 use lib.ListN.{replicate}
+use Rattle.whole.specs.Sums.{tab}
 use Rattle.answers.specs.declared.Answer.{Answer}
+use Rattle.tables.specs.Sizes.{cut}
 use Rattle.chroma.specs.Chroma.{cctxOf}
-use Rattle.pixels.specs.Cases.{callOf}
+use Rattle.pixels.specs.Calls.{wOf, hOf, addOf}
 use Rattle.wht.specs.Calls.{fwhtOf}
+
+-- n times 100
+abbrev rest : ℕ → List ℤ
+rest n = replicate n (pos 100)
+
+-- n coefficients, all 0 but number k, which is v
+abbrev only : ℕ → ℕ → ℤ → List ℤ
+only n k v = tab n (λ i. cond (eqb i k) v (pos 0))
+
+abbrev pub callOf : ℕ → ℕ → ℕ → ℤ → Answer × List ℤ
+callOf tx txtp k v = addOf (rest (hOf tx * wOf tx)) (wOf tx) (only (cut (wOf tx) * cut (hOf tx)) k v) txtp tx 8
 
 -- pixels: a size number, a type number, the one coefficient that isn't 0 by its number and its value; the pixels that it makes of a prediction of 100 at depth 8
 -- chroma: u, v, sine, cosine; u and v as they are left, at depth 8
@@ -30,10 +46,7 @@ wanted (pixels tx txtp k v p) = p ∷ []
 wanted (chroma u v s c u′ v′) = u′ ∷ v′ ∷ []
 wanted (wht resid level) = level ∷ []
 
--- n times 100; 0; -1
-abbrev rest : ℕ → List ℤ
-rest n = replicate n (pos 100)
-
+-- 0; -1
 abbrev o : ℤ
 o = pos 0
 

@@ -1,8 +1,7 @@
--- The lossless step: Gains (samples that gain numbers), Step (the calls), History and Wanted (what is claimed of steps), Cases;
+-- The lossless step: Gains (samples that gain numbers), Step (the calls), History and Wanted (what is claimed of steps);
 -- Bounds serves the internal functions.
 pub mod Gains
 pub mod Step
 pub mod Bounds
 pub mod History
 pub mod Wanted
-pub mod Cases

@@ -2,4 +2,3 @@
 pub mod Pixels
 pub mod Rows
 pub mod Calls
-pub mod Cases
