@@ -5,7 +5,7 @@
 --     size-none, size-start                    no bytes; the first of some
 --     size-step, size-other, size-large        the byte at place i: a digit; none; a digit behind a value too large for one more
 --     size-done, size-past                     no byte left: the value is in range, or is not
-use mathlib.Core.Path.{_≡_, refl}
+use mathlib.Core.Path.{_≡_}
 use mathlib.Core.Bool.{true, false, and-false}
 use mathlib.Core.List.{List, [], _∷_}
 use Prim.Native.Nat.{ℕ, _+_, _*_, _-_, _≤_, _<_}

@@ -1,5 +1,4 @@
 -- `decimal::is_digit` meets its contract: the two tests. Assumes nothing.
-use mathlib.Core.Path.{_≡_, refl}
 use borrow.Author.Tests.{le-leb, lt-leb}
 use Rattle.words.specs.Words.{digit}
 use Rattle.words.proofs.decimal.is_digit.Statement.{statement}

@@ -1,5 +1,5 @@
 -- `decimal::number` meets its contract: the size and the sign of the word are its number's. Assumes nothing.
-use mathlib.Core.Path.{_≡_, refl, sym, ap, _∙_}
+use mathlib.Core.Path.{refl, sym, ap, _∙_}
 use borrow.Author.Tests.{le-leb, lt-leb}
 use lib.ListN.{set}
 use Rattle.whole.proofs.Num.{back}

@@ -1,5 +1,5 @@
 -- `decimal::signed` meets its contract: a size below 2^31 is its own number. Assumes nothing.
-use mathlib.Core.Path.{_≡_, refl, _∙_}
+use mathlib.Core.Path.{_∙_}
 use native.Mathlib.Omega.{arith}
 use lib.Dec.{lit<}
 use lib.IntN.{pos, +ℤ-idl}

@@ -1,5 +1,4 @@
 -- `text::is_blank` meets its contract: each test, and those before it that failed. Assumes nothing.
-use mathlib.Core.Path.{_≡_, refl}
 use borrow.Author.Tests.{eq-eqb, ne-eqb}
 use Rattle.words.specs.Words.{blank}
 use Rattle.words.proofs.text.is_blank.Statement.{statement}

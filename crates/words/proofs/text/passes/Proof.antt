@@ -1,5 +1,5 @@
 -- `text::passes` meets its contract: the test, or its opposite. Assumes nothing.
-use mathlib.Core.Path.{_≡_, ap}
+use mathlib.Core.Path.{ap}
 use mathlib.Core.Bool.{not}
 use Rattle.words.specs.Words.{passed}
 use borrow.Author.Needs.{needs}
