@@ -5,7 +5,7 @@
 --     remembers      an entry put in behind k others
 --     gap            a wanted sample less a present one: the difference fits, and is theirs
 --     gaps-small     sixteen of them are small enough for the forward transform
-use mathlib.Core.Path.{_≡_, refl, sym, ap, _∙_, subst}
+use mathlib.Core.Path.{_≡_, refl, sym, ap, _∙_}
 use mathlib.Core.Bool.{true, false}
 use mathlib.Core.List.{List, _++_}
 use Prim.Native.Nat.{ℕ, _+_, _*_, _-_, _≤_, _<_}

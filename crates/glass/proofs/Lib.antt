@@ -3,7 +3,9 @@
 --     Planes     samples, and blocks that stand on a screen
 --     Entries    steps and their entries
 --     Stepping   steps that are taken, remembered and taken back
+--     Arriving   a change leads to the wanted block
 pub mod Tails
 pub mod Planes
 pub mod Entries
 pub mod Stepping
+pub mod Arriving

@@ -19,12 +19,12 @@ use Rattle.answers.specs.Answers.{done}
 use Rattle.answers.proofs.Verdicts.{left}
 use Rattle.wht.specs.Wht.{iwht}
 use Rattle.pixels.specs.Calls.{addOf, addVerdict, added}
-use Rattle.lossless.specs.Gains.{numbers, gaining}
+use Rattle.lossless.specs.Gains.{numbers}
 use Rattle.lossless.specs.History.{Undoes, none, next}
 use Rattle.lossless.specs.Step.{Step, spot, sample, front, stepOf, undoOf}
 use Rattle.lossless.proofs.Calls.{refused-is, same-length}
 use Rattle.lossless.proofs.Undo.{undo-exact}
-use Rattle.glass.specs.Planes.{blockStands, blockOf, fromOn, onRoom, drawnOf}
+use Rattle.glass.specs.Planes.{blockStands, blockOf, fromOn, drawnOf}
 use Rattle.glass.specs.Steps.{stepIn, entryAt, recorded, steppedOf, backOf, Remembers}
 use Rattle.glass.specs.declared.commands.Screen.{Screen}
 use Rattle.glass.specs.Screens.{Sound, Back, Held}

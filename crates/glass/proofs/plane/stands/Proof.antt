@@ -2,7 +2,6 @@
 use Prim.Native.Nat.{_+_, _≤_, _<_}
 use native.Mathlib.Omega.{arith}
 use borrow.Author.Tests.{le-leb, lt-leb}
-use borrow.Author.Needs.{needs}
 use Rattle.glass.proofs.Planes.{less-side}
 use Rattle.glass.proofs.plane.stands.Statement.{statement}
 use Rattle.glass.proofs.plane.stands.Tie as tie
