@@ -2,7 +2,6 @@
 
 import os
 import pathlib
-import platform
 import shlex
 import shutil
 import subprocess
@@ -35,17 +34,8 @@ def build_oracle():
 
 
 def program(name):
-    """The command of a program under test: the variable of its name in capitals, or target/bin/ and its name under the
-    toolchain's loader and emulator."""
-    if os.environ.get(name.upper()):
-        return shlex.split(os.environ[name.upper()])
-    if not (ROOT / "target/bin" / name).is_file():
-        raise SystemExit(f"no target/bin/{name}: build it with rt check {name}, or name a program in {name.upper()}")
-    page = subprocess.run(["rt", "doc"], capture_output=True, text=True, check=True).stdout.strip()
-    tools = pathlib.Path(page).parent.parent / "on" / platform.machine() / "toolchain"
-    emulator = tools / "bin/qemu-x86_64"
-    loader = [tools / "lib/ld-linux-x86-64.so.2", "--library-path", tools / "lib", ROOT / "target/bin" / name]
-    return [str(word) for word in ([emulator] if os.access(emulator, os.X_OK) else []) + loader]
+    """The command of a program under test: the variable of its name in capitals, or target/bin/ and its name by tools/run."""
+    return shlex.split(os.environ.get(name.upper(), "")) or [str(ROOT / "tools/run"), name]
 
 
 def run(command, data):
