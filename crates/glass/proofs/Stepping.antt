@@ -144,8 +144,10 @@ behind w h d k {room} {room′} {past} {r} fit b q =
 
 -- the newest of k steps, whose entry is lent as `&past[a..e]`
 pub held-less : (w h d k : ℕ) {room room′ past : List ℤ} {r : Answer} → w * h ≤ length room → 0 < k → Back (w * h) d w k room past
-    → (r, room′) ≡ backOf w h d (take (18 * (k - 1) + 18 - 18 * (k - 1)) (drop (18 * (k - 1)) past)) room → (r ≡ done) × Back (w * h) d w (k - 1) room′ past
+    → (r, room′) ≡ backOf w h d (take (18 * (k - 1) + 18 - 18 * (k - 1)) (drop (18 * (k - 1)) past)) room
+    → (r ≡ done) × Back (w * h) d w (k - 1) room′ past × ((done, room′) ≡ backOf w h d (entryAt past (k - 1)) room)
 held-less w h d k {room} {room′} {past} fit l b q =
     let e : k ≡ suc (k - 1) = omega arith in
-    behind w h d (k - 1) fit (subst (λ (k : ℕ). Back (w * h) d w k room past) e b)
-    (q ∙ ap (λ m. backOf w h d (take m (drop (18 * (k - 1)) past)) room) (N.add-sub-cancel-left (18 * (k - 1)) 18))
+    let t = q ∙ ap (λ m. backOf w h d (take m (drop (18 * (k - 1)) past)) room) (N.add-sub-cancel-left (18 * (k - 1)) 18) in
+    let u = behind w h d (k - 1) fit (subst (λ (k : ℕ). Back (w * h) d w k room past) e b) t in
+    (u .0, u .1, ap (λ a. (a, room′)) (sym (u .0)) ∙ t)

@@ -4,8 +4,10 @@ ghost use mathlib.Core.Path.{_≡_};
 ghost use Prim.Native.Nat.{_-_, _*_, _^_, _≤_, _<_};
 ghost use lib.IntN.{ℤ, pos};
 ghost use lib.ListN.{length};
+ghost use Rattle.answers.specs.Answers.{done};
 ghost use Rattle.lossless.specs.Wanted.{Samples};
 ghost use Rattle.glass.specs.Screens.{Sound, Back, Held, Onward, possibleOf};
+ghost use Rattle.glass.specs.Steps.{entryAt, backOf};
 use crate::picture;
 use crate::plane;
 use crate::plane::natural;
@@ -56,6 +58,7 @@ fn grey(depth: usize) -> i32
     }
 }
 
+// The event of a new screen.
 fn say_screen(line: usize, width: usize, height: usize, depth: usize) {
     say::start(line);
     say::text(b"screen of ");
@@ -84,6 +87,7 @@ fn new_screen(line: usize, width: usize, height: usize, depth: usize, room: &mut
     }
 }
 
+// A new screen, if there can be one.
 pub fn begin(line: usize, s: Screen, list: &[i32], room: &mut [i32]) -> Screen
     requires { ⌜ Sound s × (1028 ≤ length (now list)) × (65536 ≤ length (now room)) ⌝ }
     ensures { λ r. ⌜ Sound r × Onward s r (now (room .entry)) (now (room .exit)) ⌝ }
@@ -187,7 +191,7 @@ pub fn change(
     changed(line, s, row, column, wanted, room, past)
 }
 
-// The newest of k steps, taken back. It is never refused.
+// The newest of k steps, taken back. It is never refused, and leaves what its undo is defined to leave.
 fn undo_one(
     line: usize,
     width: usize,
@@ -201,6 +205,7 @@ fn undo_one(
     requires { ⌜ (65536 ≤ length (now room)) × (73728 ≤ length (now past)) ⌝ }
     requires { ⌜ Back (width * height) depth width k (now room) (now past) ⌝ }
     ensures { λ _. ⌜ Back (width * height) depth width (k - 1) (now (room .exit)) (now (past .entry)) ⌝ }
+    ensures { λ _. ⌜ (done, now (room .exit)) ≡ backOf width height depth (entryAt (now (past .entry)) (k - 1)) (now (room .entry)) ⌝ }
 {
     let a = 18 * (k - 1);
     let e = a + 18;
@@ -227,6 +232,7 @@ fn undo_some(line: usize, s: Screen, count: usize, room: &mut [i32], past: &[i32
     with_steps(s, k)
 }
 
+// The event of an undo of 0 steps.
 fn undo_nothing(line: usize, steps: usize) {
     say::start(line);
     say::text(b"undo of nothing, steps ");
@@ -234,6 +240,7 @@ fn undo_nothing(line: usize, steps: usize) {
     say::text(b"\n");
 }
 
+// As many steps as the line says, taken back.
 pub fn undo(line: usize, s: Screen, count: usize, room: &mut [i32], past: &[i32]) -> Screen
     requires { ⌜ Sound s ⌝ }
     requires { ⌜ (65536 ≤ length (now room)) × (73728 ≤ length (now past)) ⌝ }
@@ -251,6 +258,7 @@ pub fn undo(line: usize, s: Screen, count: usize, room: &mut [i32], past: &[i32]
     undo_some(line, s, count, room, past)
 }
 
+// The screen as a picture.
 pub fn show(line: usize, s: Screen, room: &[i32])
     requires { ⌜ Sound s × (65536 ≤ length (now room)) ⌝ }
 {
@@ -258,6 +266,7 @@ pub fn show(line: usize, s: Screen, room: &[i32])
     picture::show(room, s.width, s.height, s.depth);
 }
 
+// A copy of the screen is kept.
 pub fn keep(line: usize, s: Screen, room: &[i32], kept: &mut [i32]) -> Screen
     requires { ⌜ Sound s × (65536 ≤ length (now room)) × (65536 ≤ length (now kept)) ⌝ }
     ensures { λ r. ⌜ Sound r × ((room past : List ℤ) → Held s room past → Held r room past) ⌝ }
@@ -274,6 +283,7 @@ pub fn keep(line: usize, s: Screen, room: &[i32], kept: &mut [i32]) -> Screen
     }
 }
 
+// The screen against the kept copy.
 pub fn compare(line: usize, s: Screen, room: &[i32], kept: &[i32])
     requires { ⌜ Sound s × (0 < s .width) × (65536 ≤ length (now room)) × (65536 ≤ length (now kept)) ⌝ }
 {

@@ -1,7 +1,7 @@
 // Changes into wanted blocks, and the steps that are remembered: 18 numbers for each, its row, its column and its sixteen levels.
 ghost use mathlib.Core.Path.{_≡_};
 ghost use Prim.Native.Nat.{_+_, _*_, _≤_, _<_};
-ghost use lib.ListN.{length};
+ghost use lib.ListN.{length, take};
 ghost use Rattle.lossless.specs.Step.{stepOf, undoOf};
 ghost use Rattle.lossless.specs.Wanted.{Samples};
 ghost use Rattle.glass.specs.Steps.{stepIn, gapsOf, levelsTo, entryTo, steppedOf, backOf, Near, Remembers};
@@ -102,6 +102,7 @@ pub fn step(
 ) -> Answer
     requires { ⌜ (width ≤ 256) × (height ≤ 256) × (depth ≤ 12) × (65536 ≤ length (now room)) × Samples depth (now wanted) × (length (now entry) ≡ 18) ⌝ }
     ensures { λ r. ⌜ (r, now (room .exit)) ≡ steppedOf width height depth (now (entry .exit)) (now (room .entry)) ⌝ }
+    ensures { λ r. ⌜ now (entry .exit) ≡ entryTo depth width height (take (width * height) (now (room .entry))) (now (wanted .entry)) (now (entry .entry)) ⌝ }
 {
     let n = width * height;
     change(&mut room[..n], width, height, depth, wanted, entry)

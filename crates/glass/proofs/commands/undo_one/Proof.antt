@@ -6,13 +6,18 @@ use borrow.Author.Tests.{eq-eqb}
 use Rattle.answers.specs.declared.Answer.{Answer}
 use Rattle.answers.specs.Answers.{done}
 use Rattle.glass.specs.Screens.{Back}
+use Rattle.glass.specs.Steps.{entryAt, backOf}
 use Rattle.glass.proofs.Planes.{few-samples}
 use Rattle.glass.proofs.Stepping.{held-less}
 use Rattle.glass.proofs.commands.undo_one.Statement.{statement}
 use Rattle.glass.proofs.commands.undo_one.Tie as tie
 
 less : (c : tie.After-back)
-    → let q = c .before .before .before .args in (c .back .result ≡ done) × Back (q .width * q .height) (q .depth) (q .width) (q .k - 1) (c .back .last .1 .1 .1 .1 .0) (q .past .now)
+    → let q = c .before .before .before .args in
+    let room = c .back .last .1 .1 .1 .1 .0 in
+    (c .back .result ≡ done)
+    × Back (q .width * q .height) (q .depth) (q .width) (q .k - 1) room (q .past .now)
+    × ((done, room) ≡ backOf (q .width) (q .height) (q .depth) (entryAt (q .past .now) (q .k - 1)) (q .room .now))
 less c =
     let s = c .before .before .before in
     let q = s .args in
@@ -82,7 +87,9 @@ same-length : tie.Need-same-length
 same-length c = search needs
 
 returns : tie.Need-returns
-returns c = less (c .before .before .before .before .before .before .before .before .before .before) .1
+returns c =
+    let u = less (c .before .before .before .before .before .before .before .before .before .before) in
+    (u .1, u .2)
 
 pub undo-one-spec : {M : Type 1} → statement M
 undo-one-spec =

@@ -38,7 +38,7 @@ loop-again : tie.Need-loop-again Inv-loop μ-loop
 loop-again c =
     let f = c .before in
     let l = f .before .before .before in
-    (omega (arith, l .loop .inv .0), omega (arith, l .loop .inv .1), f .undo-one .kept .1 .1 .1 .1 .1 .0 ∙ l .loop .inv .2, f .undo-one .ensures)
+    (omega (arith, l .loop .inv .0), omega (arith, l .loop .inv .1), f .undo-one .kept .1 .1 .1 .1 .1 .0 ∙ l .loop .inv .2, f .undo-one .ensures .0)
 
 with-steps-requires : tie.Need-with-steps-requires Inv-loop μ-loop
 with-steps-requires c κs = search needs

@@ -32,7 +32,10 @@ same-length-2 : tie.Need-same-length-2
 same-length-2 c = search needs
 
 returns : tie.Need-returns
-returns c = let s = c .before .before .before .before .before in ap (onRoom (s .args .width * s .args .height) (s .args .room .now)) (c .before .before .change .ensures .0)
+returns c =
+    let s = c .before .before .before .before .before in
+    let f = c .before .before .change in
+    (ap (onRoom (s .args .width * s .args .height) (s .args .room .now)) (f .ensures .0), f .ensures .1)
 
 pub step-spec : {M : Type 1} → statement M
 step-spec =
