@@ -5,6 +5,7 @@
 --     less-side                   a test of a difference is one of a sum
 --     possible-is                 what a screen that may be has
 --     few-samples, few-fits       the samples of a screen fit their room, and their number fits its type
+--     screen-part                 they are as many as the screen has
 --     block-same                  blocks with the same arguments are the same
 --     same-bits                   numbers with the same bits are the same
 --     Agreed                      the first i numbers of two lists are the same: agreed-none, agreed-more; differing, alike: a loop that stops, and one that doesn't
@@ -19,8 +20,8 @@ use native.Mathlib.Omega.{arith}
 use borrow.Author.Tests.{leb-true, leb-false, le-leb, lt-leb}
 use lib.Dec.{T, leb, ltb→lt}
 use lib.IntN.{ℤ, pos, negsuc, natAbs}
-use lib.ListN.{length, getD}
-use lib.Seq.{ext-getD}
+use lib.ListN.{length, getD, take}
+use lib.Seq.{length-take-le, ext-getD}
 use lib.Signed.{ltZ, nonNeg}
 use mir.Syntax.{w32, w64}
 use mir.Val.{Fits, SFits, toZ, ofZ}
@@ -63,6 +64,10 @@ possible-is w h d e =
 -- the samples of a screen fit their room
 pub few-samples : {w h n : ℕ} → w ≤ 256 → h ≤ 256 → 65536 ≤ n → w * h ≤ n
 few-samples a b c = N.le-trans (N.mul-le-mul a b) c
+
+-- what is lent of a room: the samples of a screen
+pub screen-part : {w h : ℕ} (l : List ℤ) → w ≤ 256 → h ≤ 256 → 65536 ≤ length l → length (take (w * h) l) ≡ w * h
+screen-part {w} {h} l a b c = length-take-le (w * h) l (few-samples a b c)
 
 pub few-fits : {w h : ℕ} → w ≤ 256 → h ≤ 256 → Fits w64 (w * h)
 few-fits a b = record { fits = omega (arith, N.mul-le-mul a b) }

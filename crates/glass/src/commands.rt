@@ -13,6 +13,7 @@ use crate::plane;
 use crate::plane::natural;
 use crate::say;
 use crate::steps;
+use kernels::sums::copy;
 use lossless::front::between;
 
 // A screen; one of width 0 is none.
@@ -272,7 +273,7 @@ pub fn keep(line: usize, s: Screen, room: &[i32], kept: &mut [i32]) -> Screen
     ensures { λ r. ⌜ Sound r × ((room past : List ℤ) → Held s room past → Held r room past) ⌝ }
 {
     let n = s.width * s.height;
-    plane::copy(&room[..n], &mut kept[..n]);
+    copy(&mut kept[..n], &room[..n]);
     say::event(line, b"keep");
     Screen {
         width: s.width,

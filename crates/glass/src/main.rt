@@ -1,6 +1,6 @@
 // Reads a script on standard input (docs/GLASS.md), plays it, and writes what happens and the pictures on standard output.
 // The files stdin and stdout hold a script and what it gives; tools/record-glass writes both.
-//     plane       the samples: blocks, copies, the first difference
+//     plane       the samples: blocks, the first difference
 //     steps       changes into wanted blocks, and the steps that are remembered
 //     picture     a plane as PGM
 //     say         the line of an event

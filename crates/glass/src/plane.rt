@@ -28,18 +28,6 @@ pub fn fill(list: &mut [i32], z: i32)
     }
 }
 
-// A copy of every number.
-pub fn copy(list: &[i32], to: &mut [i32])
-    requires { ⌜ length (now list) ≡ length (now to) ⌝ }
-    ensures { λ _. ⌜ now (to .exit) ≡ now (list .entry) ⌝ }
-{
-    let mut i = 0;
-    while i < list.len() {
-        to[i] = list[i];
-        i += 1;
-    }
-}
-
 // The first index at which two planes differ, or their length.
 pub fn first_difference(a: &[i32], b: &[i32]) -> usize
     requires { ⌜ length (now a) ≡ length (now b) ⌝ }

@@ -8,6 +8,7 @@ ghost use Rattle.glass.specs.Steps.{stepIn, gapsOf, levelsTo, entryTo, s
 use crate::plane;
 use crate::plane::natural;
 use answers::Answer;
+use kernels::sums::copy;
 
 // How many steps are remembered.
 pub const MOST: usize = 4096;
@@ -124,5 +125,5 @@ pub fn remember(past: &mut [i32], k: usize, entry: &[i32])
 {
     let a = 18 * k;
     let e = a + 18;
-    plane::copy(entry, &mut past[a..e]);
+    copy(&mut past[a..e], entry);
 }

@@ -3,17 +3,15 @@ use mathlib.Core.Path.{_≡_, sym, _∙_}
 use Prim.Native.Nat.{_*_}
 use borrow.Author.Needs.{needs}
 use lib.ListN.{length, take}
-use lib.Seq.{length-take-le}
-use Rattle.glass.proofs.Planes.{few-samples, few-fits}
+use Rattle.glass.proofs.Planes.{few-fits, screen-part}
 use Rattle.glass.proofs.commands.compare.Statement.{statement}
 use Rattle.glass.proofs.commands.compare.Tie as tie
 
--- the samples of the screen, in the room and in that of the copy
 room-part : (s : tie.Start) → length (take (s .args .s .width * s .args .s .height) (s .args .room .now)) ≡ s .args .s .width * s .args .s .height
-room-part s = length-take-le _ (s .args .room .now) (few-samples (s .pre .0 .wide) (s .pre .0 .high) (s .pre .2))
+room-part s = screen-part (s .args .room .now) (s .pre .0 .wide) (s .pre .0 .high) (s .pre .2)
 
 kept-part : (s : tie.Start) → length (take (s .args .s .width * s .args .s .height) (s .args .kept .now)) ≡ s .args .s .width * s .args .s .height
-kept-part s = length-take-le _ (s .args .kept .now) (few-samples (s .pre .0 .wide) (s .pre .0 .high) (s .pre .3))
+kept-part s = screen-part (s .args .kept .now) (s .pre .0 .wide) (s .pre .0 .high) (s .pre .3)
 
 slice-aggregate-error : tie.Need-slice-aggregate-error
 slice-aggregate-error c = search needs

@@ -3,32 +3,30 @@ use mathlib.Core.Path.{_≡_, sym, _∙_}
 use Prim.Native.Nat.{_*_}
 use borrow.Author.Needs.{needs}
 use lib.ListN.{length, take}
-use lib.Seq.{length-take-le}
-use Rattle.glass.proofs.Planes.{few-samples, few-fits}
+use Rattle.glass.proofs.Planes.{few-samples, few-fits, screen-part}
 use Rattle.glass.proofs.commands.keep.Statement.{statement}
 use Rattle.glass.proofs.commands.keep.Tie as tie
 
--- the samples of the screen, in the room and in that of the copy
 room-part : (s : tie.Start) → length (take (s .args .s .width * s .args .s .height) (s .args .room .now)) ≡ s .args .s .width * s .args .s .height
-room-part s = length-take-le _ (s .args .room .now) (few-samples (s .pre .0 .wide) (s .pre .0 .high) (s .pre .1))
+room-part s = screen-part (s .args .room .now) (s .pre .0 .wide) (s .pre .0 .high) (s .pre .1)
 
 kept-part : (s : tie.Start) → length (take (s .args .s .width * s .args .s .height) (s .args .kept .now)) ≡ s .args .s .width * s .args .s .height
-kept-part s = length-take-le _ (s .args .kept .now) (few-samples (s .pre .0 .wide) (s .pre .0 .high) (s .pre .2))
+kept-part s = screen-part (s .args .kept .now) (s .pre .0 .wide) (s .pre .0 .high) (s .pre .2)
 
 mul-n : tie.Need-mul-n
 mul-n c = let s = c .before in few-fits (s .pre .0 .wide) (s .pre .0 .high)
 
-slice-aggregate-copy : tie.Need-slice-aggregate-copy
-slice-aggregate-copy c = sym (room-part (c .before .before))
-
 slice-relend-prefix-copy : tie.Need-slice-relend-prefix-copy
-slice-relend-prefix-copy c = let s = c .before .before in few-samples (s .pre .0 .wide) (s .pre .0 .high) (s .pre .2)
+slice-relend-prefix-copy c = let s = c .before in few-samples (s .pre .0 .wide) (s .pre .0 .high) (s .pre .2)
+
+slice-aggregate-copy : tie.Need-slice-aggregate-copy
+slice-aggregate-copy c = sym (kept-part (c .before .before))
 
 slice-aggregate-copy-2 : tie.Need-slice-aggregate-copy-2
-slice-aggregate-copy-2 c = sym (kept-part (c .before .before .before))
+slice-aggregate-copy-2 c = sym (room-part (c .before .before .before))
 
 copy-requires : tie.Need-copy-requires
-copy-requires c κs = let s = c .before .before .before in room-part s ∙ sym (kept-part s)
+copy-requires c κs = let s = c .before .before .before in kept-part s ∙ sym (room-part s)
 
 slice-aggregate-event : tie.Need-slice-aggregate-event
 slice-aggregate-event c = search needs
@@ -47,8 +45,8 @@ keep-spec =
     tie.close
     (tie.spec
     mul-n
-    slice-aggregate-copy
     slice-relend-prefix-copy
+    slice-aggregate-copy
     slice-aggregate-copy-2
     copy-requires
     slice-aggregate-event

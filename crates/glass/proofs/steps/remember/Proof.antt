@@ -30,7 +30,7 @@ same-length : tie.Need-same-length
 same-length c = search needs
 
 returns : tie.Need-returns
-returns c = let s = c .before .before .before in remembers (s .args .k) (s .args .entry .now) (s .args .past .now) (c .before .copy .last .1 .0) (c .before .copy .ensures) (s .pre .2) (omega (arith, s .pre .0, s .pre .1))
+returns c = let s = c .before .before .before in remembers (s .args .k) (s .args .entry .now) (s .args .past .now) (c .before .copy .last .0) (c .before .copy .ensures) (s .pre .2) (omega (arith, s .pre .0, s .pre .1))
 
 pub remember-spec : {M : Type 1} → statement M
 remember-spec =
