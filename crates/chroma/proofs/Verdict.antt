@@ -19,7 +19,7 @@ use Rattle.whole.proofs.Range.{in-range-size, lowest-size, highest-size}
 use Rattle.whole.proofs.Search.{seek-passed}
 use Rattle.whole.proofs.Tests.{both}
 use Rattle.answers.proofs.Verdicts.{passed, search-passed}
-use Rattle.chroma.specs.Chroma.{low, high, item, pairOk, angleOk, verdict}
+use Rattle.chroma.specs.Chroma.{low, high, item, pairOk, angleOk, badOf, firstBad, verdict}
 
 pub record Accepted (u v : List ℤ) (s c : ℤ) (depth : ℕ) : Type 0 where
   pub most : depth ≤ 12
@@ -44,11 +44,11 @@ pairs u v depth h k l = both _ _ (seek-passed (pairOk (low depth) (high depth) u
 pub accepted : (u v : List ℤ) (s c : ℤ) (depth : ℕ) → verdict u v s c depth .number ≡ 0 → Accepted u v s c depth
 unfolding verdict
 accepted u v s c depth e =
-    let p₁ = passed _ _ _ _ e in
-    let p₂ = passed _ _ _ _ (p₁ .1) in
-    let p₃ = search-passed 6 (length u) (λ k. k) (seek (pairOk (low depth) (high depth) u v) 0 (length u)) _ (p₂ .1) in
-    let p₄ = passed _ _ _ _ (p₃ .1) in
-    let p₅ = passed _ _ _ _ (p₄ .1) in
+    let p₁ = passed _ _ _ _ _ e in
+    let p₂ = passed _ _ _ _ _ (p₁ .1) in
+    let p₃ = search-passed 6 (badOf (low depth) (high depth) u (firstBad u v depth)) (length u) (λ k. k) (firstBad u v depth) _ (p₂ .1) in
+    let p₄ = passed _ _ _ _ _ (p₃ .1) in
+    let p₅ = passed _ _ _ _ _ (p₄ .1) in
     let most = leb-true depth 12 (both (leb 8 depth) (leb depth 12) (p₁ .0) .1) in
     let same = eqb-true (length u) (length v) (p₂ .0) in
     let pair = pairs u v depth (p₃ .0) in

@@ -1,13 +1,13 @@
 // The chroma call: the pairs of two lent lists, turned by an angle in their places.
 ghost use mathlib.Core.Path.{_≡_};
 ghost use mathlib.Core.Bool.{_&&_};
-ghost use Prim.Native.Nat.{_^_, _≤_};
+ghost use Prim.Native.Nat.{_^_, _≤_, _<_};
 ghost use lib.IntN.{natAbs};
 ghost use lib.ListN.{length};
 ghost use Rattle.whole.specs.Numbers.{inRange};
 ghost use Rattle.whole.specs.Search.{seek};
 ghost use Rattle.whole.specs.Sums.{Within};
-ghost use Rattle.chroma.specs.Chroma.{round256, turnU, turnV, turned, pairOk, verdict, cctxOf};
+ghost use Rattle.chroma.specs.Chroma.{round256, turnU, turnV, turned, pairOk, shorterOf, badOf, verdict, cctxOf};
 use answers::Answer;
 
 // A pair: one number of each list.
@@ -82,28 +82,45 @@ fn first_bad(u: &[i32], v: &[i32], lo: i32, hi: i32) -> usize
     i
 }
 
+// The slice that is the shorter: 4 of m numbers, or 5 of n.
+fn shorter(m: usize, n: usize) -> u32
+    ensures { λ r. ⌜ r ≡ shorterOf m n ⌝ }
+{
+    if m < n { 4 } else { 5 }
+}
+
+// The slice that is out of range at a bad pair: 4 where u is, else 5.
+fn out_of_range(u: &[i32], at: usize, lo: i32, hi: i32) -> u32
+    requires { ⌜ at < length (now u) ⌝ }
+    ensures { λ r. ⌜ r ≡ badOf lo hi (now (u .entry)) at ⌝ }
+{
+    if ranges::inside(u[at], lo, hi) { 5 } else { 4 }
+}
+
 // What the call answers: the lowest refusal that applies, or Done.
 fn judge(u: &[i32], v: &[i32], sina: i32, cosa: i32, bd: u32) -> Answer
     ensures { λ r. ⌜ r ≡ verdict (now (u .entry)) (now (v .entry)) sina cosa bd ⌝ }
 {
     if bd < 8 {
-        return answers::refusal(1, 0);
+        return answers::refusal(1, 0, 0);
     }
     if 12 < bd {
-        return answers::refusal(1, 0);
+        return answers::refusal(1, 0, 0);
     }
     if u.len() != v.len() {
-        return answers::refusal(6, 0);
+        return answers::refusal(6, shorter(u.len(), v.len()), 0);
     }
-    let bad = first_bad(u, v, ranges::low_end(bd + 7), ranges::high_end(bd + 7));
+    let least = ranges::low_end(bd + 7);
+    let most = ranges::high_end(bd + 7);
+    let bad = first_bad(u, v, least, most);
     if bad < u.len() {
-        return answers::refusal(7, bad);
+        return answers::refusal(7, out_of_range(u, bad, least, most), bad);
     }
     if !ranges::inside(sina, -256, 256) {
-        return answers::refusal(9, 0);
+        return answers::refusal(9, 0, 0);
     }
     if !ranges::inside(cosa, -256, 256) {
-        return answers::refusal(9, 1);
+        return answers::refusal(9, 0, 1);
     }
     answers::finished()
 }

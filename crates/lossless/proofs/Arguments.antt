@@ -1,5 +1,5 @@
 -- What the refusals 1, 5, 6 and 7 leave for the rest of a call. Assumes nothing.
---     stops1, is5, is6, is7       the front by its tests, one after the other
+--     stops1, is5, is6, isFit, is7 the front by its tests, one after the other
 --     Fine, fine, front-done      the tests pass exactly where the front's answer is Done
 --     depth-is, stride-is, fit-is the tests as facts on numbers
 --     lies                        the block's indices lie in the plane, and no two are the same
@@ -37,45 +37,51 @@ module _ (n : ℕ) (s : Step) where
   abbrev pub from7 : Answer
   from7 = outside (negℤ (pos 262144)) (pos 262144) (s .levels)
 
+  abbrev pub fromFit : Answer
+  fromFit = unless (fits (s .at) n) (refused 6 2 0) from7
+
   abbrev pub from6 : Answer
-  from6 = unless (fits (s .at) n && eqb (length (s .levels)) 16) (refused 6 0) from7
+  from6 = unless (eqb (length (s .levels)) 16) (refused 6 1 0) fromFit
 
   abbrev pub from5 : Answer
-  from5 = unless (strides (s .at)) (refused 5 0) from6
+  from5 = unless (strides (s .at)) (refused 5 0 0) from6
 
-  pub stops1 : deep (s .at) ≡ false → front n s ≡ refused 1 0
+  pub stops1 : deep (s .at) ≡ false → front n s ≡ refused 1 0 0
   unfolding front
-  stops1 e = stops (refused 1 0) from5 e
+  stops1 e = stops (refused 1 0 0) from5 e
 
   pub is5 : deep (s .at) ≡ true → front n s ≡ from5
   unfolding front
-  is5 e = opens (refused 1 0) from5 e
+  is5 e = opens (refused 1 0 0) from5 e
 
   pub is6 : deep (s .at) ≡ true → strides (s .at) ≡ true → front n s ≡ from6
-  is6 d e = is5 d ∙ opens (refused 5 0) from6 e
+  is6 d e = is5 d ∙ opens (refused 5 0 0) from6 e
 
-  pub is7 : deep (s .at) ≡ true → strides (s .at) ≡ true → fits (s .at) n ≡ true → length (s .levels) ≡ 16 → front n s ≡ from7
-  is7 d t e c = is6 d t ∙ opens (refused 6 0) from7 (and-true e (eq-eqb (length (s .levels)) 16 c))
+  pub isFit : deep (s .at) ≡ true → strides (s .at) ≡ true → length (s .levels) ≡ 16 → front n s ≡ fromFit
+  isFit d t c = is6 d t ∙ opens (refused 6 1 0) fromFit (eq-eqb (length (s .levels)) 16 c)
+
+  pub is7 : deep (s .at) ≡ true → strides (s .at) ≡ true → length (s .levels) ≡ 16 → fits (s .at) n ≡ true → front n s ≡ from7
+  is7 d t c e = isFit d t c ∙ opens (refused 6 2 0) from7 e
 
   pub fine : front n s .number ≡ 0 → Fine n s
   unfolding front
   fine e =
-      let a = passed (deep (s .at)) 0 0 from5 e in
-      let b = passed (strides (s .at)) 4 0 from6 (a .1) in
-      let c = passed (fits (s .at) n && eqb (length (s .levels)) 16) 5 0 from7 (b .1) in
-      let m = both (fits (s .at) n) (eqb (length (s .levels)) 16) (c .0) in
-      let d = search-passed 6 16 (λ k. k) (seek (numberOk (negℤ (pos 262144)) (pos 262144) (s .levels)) 0 16) done (c .1) in
+      let a = passed (deep (s .at)) 0 0 0 from5 e in
+      let b = passed (strides (s .at)) 4 0 0 from6 (a .1) in
+      let c = passed (eqb (length (s .levels)) 16) 5 1 0 fromFit (b .1) in
+      let m = passed (fits (s .at) n) 5 2 0 from7 (c .1) in
+      let d = search-passed 6 1 16 (λ k. k) (seek (numberOk (negℤ (pos 262144)) (pos 262144) (s .levels)) 0 16) done (m .1) in
       record {
         depths = a .0;
         wide = b .0;
         fit = m .0;
-        levels = all-small 262144 (negℤ (pos 262144)) (pos 262144) (lit≤ tt) (lit≤ tt) (s .levels) (eqb-true (length (s .levels)) 16 (m .1)) (d .0);
+        levels = all-small 262144 (negℤ (pos 262144)) (pos 262144) (lit≤ tt) (lit≤ tt) (s .levels) (eqb-true (length (s .levels)) 16 (c .0)) (d .0);
       }
 
   pub front-done : Fine n s → front n s ≡ done
   front-done f =
-      is7 (f .depths) (f .wide) (f .fit) (f .levels .count)
-      ∙ search-opens 7 16 (λ k. k) (seek (numberOk (negℤ (pos 262144)) (pos 262144) (s .levels)) 0 16) done (N.le-of-eq (sym (seek-all _ 0 16 good)))
+      is7 (f .depths) (f .wide) (f .levels .count) (f .fit)
+      ∙ search-opens 7 1 16 (λ k. k) (seek (numberOk (negℤ (pos 262144)) (pos 262144) (s .levels)) 0 16) done (N.le-of-eq (sym (seek-all _ 0 16 good)))
     where
       good : (k : ℕ) → k < 16 → numberOk (negℤ (pos 262144)) (pos 262144) (s .levels) k ≡ true
       good k h = size-in-range 262143 (numbers (s .levels) k) (f .levels .small k (subst (λ (m : ℕ). k < m) (sym (f .levels .count)) h))

@@ -45,14 +45,14 @@ pub record Passes (ok : ℤ → Bool) (at : ℕ → ℕ) (p : List ℤ) (g : ℕ
 module _ (ok : ℤ → Bool) (at : ℕ → ℕ) (p : List ℤ) (g : ℕ → ℤ) where
   pub passes : samples ok at p g .number ≡ 0 → Passes ok at p g
   passes e =
-      let a = search-passed 7 16 at (seek (presentOk ok at p) 0 16) (leaves ok at p g) e in
-      let b = search-passed 9 16 at (seek (laterOk ok at p g) 0 16) done (a .1) in
+      let a = search-passed 7 2 16 at (seek (presentOk ok at p) 0 16) (leaves ok at p g) e in
+      let b = search-passed 9 2 16 at (seek (laterOk ok at p g) 0 16) done (a .1) in
       record { present = seek-passed (presentOk ok at p) 16 (a .0); later = seek-passed (laterOk ok at p g) 16 (b .0) }
 
   pub passed : Passes ok at p g → samples ok at p g ≡ done
   passed t =
-      search-opens 8 16 at (seek (presentOk ok at p) 0 16) (leaves ok at p g) (le-of-eq (sym (seek-all (presentOk ok at p) 0 16 (t .present))))
-      ∙ search-opens 10 16 at (seek (laterOk ok at p g) 0 16) done (le-of-eq (sym (seek-all (laterOk ok at p g) 0 16 (t .later))))
+      search-opens 8 2 16 at (seek (presentOk ok at p) 0 16) (leaves ok at p g) (le-of-eq (sym (seek-all (presentOk ok at p) 0 16 (t .present))))
+      ∙ search-opens 10 2 16 at (seek (laterOk ok at p g) 0 16) done (le-of-eq (sym (seek-all (laterOk ok at p g) 0 16 (t .later))))
 
 pub then-passes : {ok : ℤ → Bool} {at : ℕ → ℕ} {p : List ℤ} {g : ℕ → ℤ} → Passes ok at p g → Lies at (length p) → (h : ℕ → ℤ)
     → ((k : ℕ) → g k +ℤ h k ≡ pos 0) → Passes ok at (gained at g p) h

@@ -3,7 +3,7 @@
 --     addOn f p             every sample i of p gains f i
 --     gain at g n           g k at the index at k, for the k below n, and 0 elsewhere
 --     gained at g p         the plane p after the sixteen gains
---     samples ok at p g     refusal 8 at the first sample that is not ok, then 10 at the first that would not be
+--     samples ok at p g     about the plane, slice 2: refusal 8 at the first sample that is not ok, then 10 at the first that would not be
 --     gaining f ok at p g   the whole call: its answer, and the plane as it is left. Where f, the answer by the arguments alone, is Done, the samples decide
 --     Lies at n             the sixteen indices lie in a plane of n samples, and no two are the same
 use mathlib.Core.Path.{_≡_}
@@ -39,10 +39,10 @@ abbrev pub laterOk : (ℤ → Bool) → (ℕ → ℕ) → List ℤ → (ℕ → 
 laterOk ok at p g k = ok (numbers p (at k) +ℤ g k)
 
 abbrev pub leaves : (ℤ → Bool) → (ℕ → ℕ) → List ℤ → (ℕ → ℤ) → Answer
-leaves ok at p g = searched 10 16 at (seek (laterOk ok at p g) 0 16) done
+leaves ok at p g = searched 10 2 16 at (seek (laterOk ok at p g) 0 16) done
 
 abbrev pub samples : (ℤ → Bool) → (ℕ → ℕ) → List ℤ → (ℕ → ℤ) → Answer
-samples ok at p g = searched 8 16 at (seek (presentOk ok at p) 0 16) (leaves ok at p g)
+samples ok at p g = searched 8 2 16 at (seek (presentOk ok at p) 0 16) (leaves ok at p g)
 
 unfoldable pub judged : Answer → (ℤ → Bool) → (ℕ → ℕ) → List ℤ → (ℕ → ℤ) → Answer
 judged f ok at p g = unless (eqb (f .number) 0) f (samples ok at p g)

@@ -1,4 +1,5 @@
--- The lossless step and its undo, on a plane of whole numbers. Definitions only; from document 01, "Chroma pairs and WHT" and "Refusal numbers".
+-- The lossless step and its undo, on a plane of whole numbers. Definitions only; from document 01, "Chroma pairs and WHT" and "Refusal numbers",
+-- and document 02, section 6: slice 1 is the levels, slice 2 the plane.
 --     Where, Step             the arguments of a call: where the block stands, and its levels
 --     spot w k                the index in the plane of the block's sample k, row by row
 --     front n s               the refusals 1, 5, 6 and 7, on a plane of n samples
@@ -53,10 +54,11 @@ fits w n = leb (w .row) 65535 && (leb (w .column + 4) (w .stride) && leb ((w .ro
 
 unfoldable pub front : ℕ → Step → Answer
 front n s =
-    unless (deep (s .at)) (refused 1 0)
-    (unless (strides (s .at)) (refused 5 0)
-    (unless (fits (s .at) n && eqb (length (s .levels)) 16) (refused 6 0)
-    (outside (negℤ (pos 262144)) (pos 262144) (s .levels))))
+    unless (deep (s .at)) (refused 1 0 0)
+    (unless (strides (s .at)) (refused 5 0 0)
+    (unless (eqb (length (s .levels)) 16) (refused 6 1 0)
+    (unless (fits (s .at) n) (refused 6 2 0)
+    (outside (negℤ (pos 262144)) (pos 262144) (s .levels)))))
 
 -- ---- the calls
 abbrev pub gainOf : List ℤ → Step → (ℕ → ℤ) → Answer × List ℤ

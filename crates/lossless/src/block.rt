@@ -51,11 +51,11 @@ fn judge(plane: &[i32], gains: &[i32], depth: u32, start: usize, stride: usize) 
     let hi = ranges::high_end(depth);
     let bad = ranges::first_outside(plane, start, stride, 4, 4, 0, hi);
     if bad < 16 {
-        return answers::refusal(8, spot_of(start, stride, bad));
+        return answers::refusal(8, 2, spot_of(start, stride, bad));
     }
     let leaving = first_leaving(plane, gains, start, stride, hi);
     if leaving < 16 {
-        return answers::refusal(10, spot_of(start, stride, leaving));
+        return answers::refusal(10, 2, spot_of(start, stride, leaving));
     }
     answers::finished()
 }

@@ -39,20 +39,20 @@ pub fn judge(
     ensures { λ r. ⌜ r ≡ front n (attempt depth stride row column (now (level .entry))) ⌝ }
 {
     if !between(depth as usize, 8, 12) {
-        return answers::refusal(1, 0);
+        return answers::refusal(1, 0, 0);
     }
     if !between(stride, 4, 65536) {
-        return answers::refusal(5, 0);
-    }
-    if !block_fits(n, stride, row, column) {
-        return answers::refusal(6, 0);
+        return answers::refusal(5, 0, 0);
     }
     if level.len() != 16 {
-        return answers::refusal(6, 0);
+        return answers::refusal(6, 1, 0);
+    }
+    if !block_fits(n, stride, row, column) {
+        return answers::refusal(6, 2, 0);
     }
     let found = wht::first_bad(level, -262144, 262144);
     if found < 16 {
-        return answers::refusal(7, found);
+        return answers::refusal(7, 1, found);
     }
     answers::finished()
 }

@@ -54,11 +54,11 @@ pub record Kinds (tx txtp depth : ℕ) : Type 0 where
 module _ (tx txtp depth : ℕ) where
   pub kinds-passed : (rest : Answer) → kinds tx txtp depth rest .number ≡ 0 → Kinds tx txtp depth × (rest .number ≡ 0)
   kinds-passed rest e =
-      let a = passed (leb 8 depth && leb depth 12) 0 0 _ e in
-      let b = passed (leb tx 24) 1 0 _ (a .1) in
-      let c = passed (leb txtp 255) 2 0 _ (b .1) in
-      let d = passed (hasKind (wOf tx) (horOf txtp)) 3 0 _ (c .1) in
-      let f = passed (hasKind (hOf tx) (verOf txtp)) 3 1 rest (d .1) in
+      let a = passed (leb 8 depth && leb depth 12) 0 0 0 _ e in
+      let b = passed (leb tx 24) 1 0 0 _ (a .1) in
+      let c = passed (leb txtp 255) 2 0 0 _ (b .1) in
+      let d = passed (hasKind (wOf tx) (horOf txtp)) 3 0 0 _ (c .1) in
+      let f = passed (hasKind (hOf tx) (verOf txtp)) 3 0 1 rest (d .1) in
       let g = both (leb 8 depth) (leb depth 12) (a .0) in
       let h = leb-true tx 24 (b .0) in
       (record { from = leb-true 8 depth (g .0); to = leb-true depth 12 (g .1); size = omega arith; type = leb-true txtp 255 (c .0); across = d .0; down = f .0 }, f .1)
@@ -70,11 +70,11 @@ module _ (tx txtp depth : ℕ) where
 
   pub kinds-stays : (rest : Answer) → (kinds tx txtp depth done .number ≡ 0 → ⊥) → kinds tx txtp depth done ≡ kinds tx txtp depth rest
   kinds-stays rest h =
-      sym (stays (leb 8 depth && leb depth 12) (refused 1 0) _ _ h (λ h.
-      stays (leb tx 24) (refused 2 0) _ _ h (λ h.
-      stays (leb txtp 255) (refused 3 0) _ _ h (λ h.
-      stays (hasKind (wOf tx) (horOf txtp)) (refused 4 0) _ _ h (λ h.
-      stays (hasKind (hOf tx) (verOf txtp)) (refused 4 1) done rest h (λ h. absurd (h refl)))))))
+      sym (stays (leb 8 depth && leb depth 12) (refused 1 0 0) _ _ h (λ h.
+      stays (leb tx 24) (refused 2 0 0) _ _ h (λ h.
+      stays (leb txtp 255) (refused 3 0 0) _ _ h (λ h.
+      stays (hasKind (wOf tx) (horOf txtp)) (refused 4 0 0) _ _ h (λ h.
+      stays (hasKind (hOf tx) (verOf txtp)) (refused 4 0 1) done rest h (λ h. absurd (h refl)))))))
 
 -- ---- sides
 sideOk : ℕ → Bool
@@ -118,9 +118,9 @@ module _ (w h depth : ℕ) (deep : depth ≤ 12) where
   numbers-passed cs p stride e =
       let n = cut w * cut h in
       let cell = cellOk (pos 0) (highest depth) p 0 stride w in
-      let rest = searched 8 (h * w) (cellAt 0 stride w) (seek cell 0 (h * w)) done in
-      let a = search-passed 6 n (λ k. k) (seek (coeffOk (scaled w h) cs) 0 n) rest e in
-      let b = search-passed 7 (h * w) (cellAt 0 stride w) (seek cell 0 (h * w)) done (a .1) in
+      let rest = searched 8 2 (h * w) (cellAt 0 stride w) (seek cell 0 (h * w)) done in
+      let a = search-passed 6 1 n (λ k. k) (seek (coeffOk (scaled w h) cs) 0 n) rest e in
+      let b = search-passed 7 2 (h * w) (cellAt 0 stride w) (seek cell 0 (h * w)) done (a .1) in
       record {
         coefficients = λ k l s. subst (λ (t : Bool). cond t (scalable (getD cs k (pos 0))) true ≡ true) s (seek-passed (coeffOk (scaled w h) cs) n (a .0) k l);
         samples = λ r x l m. subst (λ (j : ℕ). natAbs (getD p j (pos 0)) ≤ 4096) (cell-place r m 0 stride ∙ ap (λ n. n + x) (N.zero-add (r * stride)))
@@ -132,18 +132,18 @@ module _ (w h depth : ℕ) (deep : depth ≤ 12) where
 
   plane-passed : (dst : List ℤ) (stride : ℕ) (cs : List ℤ) → onPlane w h depth dst stride cs .number ≡ 0 → Plane w h depth dst stride cs
   plane-passed dst stride cs e =
-      let a = passed (leb w stride && leb stride 65536) 4 0 _ e in
-      let b = passed (leb (cut w * cut h) (length cs) && leb ((h - 1) * stride + w) (length dst)) 5 0 (numbers w h depth cs dst stride) (a .1) in
+      let a = passed (leb w stride && leb stride 65536) 4 0 0 _ e in
+      let b = passed (leb (cut w * cut h) (length cs)) 5 1 0 _ (a .1) in
+      let d = passed (leb ((h - 1) * stride + w) (length dst)) 5 2 0 (numbers w h depth cs dst stride) (b .1) in
       let c = both (leb w stride) (leb stride 65536) (a .0) in
-      let d = both (leb (cut w * cut h) (length cs)) (leb ((h - 1) * stride + w) (length dst)) (b .0) in
-      record { wide = leb-true w stride (c .0); long = leb-true (cut w * cut h) (length cs) (d .0); reach = leb-true ((h - 1) * stride + w) (length dst) (d .1); all = numbers-passed cs dst stride (b .1) }
+      record { wide = leb-true w stride (c .0); long = leb-true (cut w * cut h) (length cs) (b .0); reach = leb-true ((h - 1) * stride + w) (length dst) (d .0); all = numbers-passed cs dst stride (d .1) }
 
   buffers-passed : (room : ℕ) (cs pred : List ℤ) → onBuffers w h depth room cs pred .number ≡ 0 → Buffers w h depth room cs pred
   buffers-passed room cs pred e =
-      let b = passed (leb (cut w * cut h) (length cs) && (leb (h * w) (length pred) && leb (h * w) room)) 5 0 (numbers w h depth cs pred w) e in
-      let c = both (leb (cut w * cut h) (length cs)) (leb (h * w) (length pred) && leb (h * w) room) (b .0) in
-      let d = both (leb (h * w) (length pred)) (leb (h * w) room) (c .1) in
-      record { long = leb-true (cut w * cut h) (length cs) (c .0); known = leb-true (h * w) (length pred) (d .0); space = leb-true (h * w) room (d .1); all = numbers-passed cs pred w (b .1) }
+      let b = passed (leb (cut w * cut h) (length cs)) 5 1 0 _ e in
+      let c = passed (leb (h * w) (length pred)) 5 2 0 _ (b .1) in
+      let d = passed (leb (h * w) room) 5 3 0 (numbers w h depth cs pred w) (c .1) in
+      record { long = leb-true (cut w * cut h) (length cs) (b .0); known = leb-true (h * w) (length pred) (c .0); space = leb-true (h * w) room (d .0); all = numbers-passed cs pred w (d .1) }
 
 -- ---- the whole verdicts
 pub add-passed : (dst : List ℤ) (stride : ℕ) (cs : List ℤ) (txtp tx depth : ℕ) → addVerdict dst stride cs txtp tx depth .number ≡ 0 → Kinds tx txtp depth × Plane (wOf tx) (hOf tx) depth dst stride cs

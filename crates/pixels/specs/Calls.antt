@@ -1,4 +1,5 @@
--- The two pixel calls, from document 01, "Refusal numbers" and "From coefficients to pixels". Definitions only.
+-- The two pixel calls, from document 01, "Refusal numbers" and "From coefficients to pixels", and document 02, section 6. Definitions only.
+-- Slice 1 is the coefficients, slice 2 the prediction or plane, slice 3 the output.
 --     kinds          refusals 1 to 4: depth, size number, type number, a kind that its length doesn't have
 --     numbers        refusals 7 and 8: a coefficient out of range, a prediction or present sample out of range
 --     onPlane, addVerdict, addOf           the add call: refusals 5 to 8, its answer, the whole call
@@ -42,11 +43,11 @@ pub record Sides (w h : ℕ) : Type 0 where
 -- ---- refusals
 abbrev pub kinds : ℕ → ℕ → ℕ → Answer → Answer
 kinds tx txtp depth rest =
-    unless (leb 8 depth && leb depth 12) (refused 1 0)
-    (unless (leb tx 24) (refused 2 0)
-    (unless (leb txtp 255) (refused 3 0)
-    (unless (hasKind (wOf tx) (horOf txtp)) (refused 4 0)
-    (unless (hasKind (hOf tx) (verOf txtp)) (refused 4 1)
+    unless (leb 8 depth && leb depth 12) (refused 1 0 0)
+    (unless (leb tx 24) (refused 2 0 0)
+    (unless (leb txtp 255) (refused 3 0 0)
+    (unless (hasKind (wOf tx) (horOf txtp)) (refused 4 0 0)
+    (unless (hasKind (hOf tx) (verOf txtp)) (refused 4 0 1)
     rest))))
 
 -- a coefficient that is scaled lies in -11,864,550 .. 11,864,549; any other passes
@@ -56,16 +57,17 @@ coeffOk scale cs k = cond scale (scalable (getD cs k (pos 0))) true
 -- of a block of w by h at the front of the prediction or plane p, its rows stride apart
 abbrev pub numbers : ℕ → ℕ → ℕ → List ℤ → List ℤ → ℕ → Answer
 numbers w h depth cs p stride =
-    searched 7 (cut w * cut h) (λ k. k) (seek (coeffOk (scaled w h) cs) 0 (cut w * cut h))
-    (searched 8 (h * w) (cellAt 0 stride w) (seek (cellOk (pos 0) (highest depth) p 0 stride w) 0 (h * w))
+    searched 7 1 (cut w * cut h) (λ k. k) (seek (coeffOk (scaled w h) cs) 0 (cut w * cut h))
+    (searched 8 2 (h * w) (cellAt 0 stride w) (seek (cellOk (pos 0) (highest depth) p 0 stride w) 0 (h * w))
     done)
 
 -- ---- the add call: the plane, its stride, the coefficients
 abbrev pub onPlane : ℕ → ℕ → ℕ → List ℤ → ℕ → List ℤ → Answer
 onPlane w h depth dst stride cs =
-    unless (leb w stride && leb stride 65536) (refused 5 0)
-    (unless (leb (cut w * cut h) (length cs) && leb ((h - 1) * stride + w) (length dst)) (refused 6 0)
-    (numbers w h depth cs dst stride))
+    unless (leb w stride && leb stride 65536) (refused 5 0 0)
+    (unless (leb (cut w * cut h) (length cs)) (refused 6 1 0)
+    (unless (leb ((h - 1) * stride + w) (length dst)) (refused 6 2 0)
+    (numbers w h depth cs dst stride)))
 
 unfoldable pub addVerdict : List ℤ → ℕ → List ℤ → ℕ → ℕ → ℕ → Answer
 unfolding seek
@@ -86,8 +88,10 @@ addOf dst stride cs txtp tx depth = ends (addVerdict dst stride cs txtp tx depth
 -- ---- the float call: the output of room numbers, the coefficients, the prediction, each row w apart
 abbrev pub onBuffers : ℕ → ℕ → ℕ → ℕ → List ℤ → List ℤ → Answer
 onBuffers w h depth room cs pred =
-    unless (leb (cut w * cut h) (length cs) && (leb (h * w) (length pred) && leb (h * w) room)) (refused 6 0)
-    (numbers w h depth cs pred w)
+    unless (leb (cut w * cut h) (length cs)) (refused 6 1 0)
+    (unless (leb (h * w) (length pred)) (refused 6 2 0)
+    (unless (leb (h * w) room) (refused 6 3 0)
+    (numbers w h depth cs pred w)))
 
 unfoldable pub floatVerdict : ℕ → List ℤ → ℕ → ℕ → ℕ → List ℤ → Answer
 unfolding seek

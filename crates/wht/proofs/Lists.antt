@@ -3,19 +3,17 @@
 --     put16                             four stores of four numbers leave the block, row by row
 --     levels-bound, residuals-bound     how large the results of accepted lists are
 use mathlib.Core.Path.{_≡_, sym, ap, subst}
-use mathlib.Core.Bool.{_&&_}
 use mathlib.Core.List.{List}
 use Prim.Native.Nat.{ℕ, _≤_, _<_}
 use borrow.Author.Tests.{eqb-true}
 use lib.Dec.{eqb}
 use lib.IntN.{ℤ, pos, natAbs}
 use lib.ListN.{length, getD}
-use Rattle.answers.specs.Answers.{done}
+use Rattle.answers.specs.Answers.{done, refused, unless}
 use Rattle.answers.proofs.Verdicts.{passed, search-passed}
 use Rattle.whole.specs.Search.{seek}
 use Rattle.whole.proofs.Range.{in-range-size}
 use Rattle.whole.proofs.Search.{seek-passed}
-use Rattle.whole.proofs.Tests.{both}
 use Rattle.wht.specs.declared.blocks.Block.{Block}
 use Rattle.wht.specs.Calls.{Sixteen, numberOk, outside, verdict}
 use Rattle.wht.specs.Stores.{put4}
@@ -30,10 +28,10 @@ module _ (B : ℕ) (lo hi : ℤ) (low : natAbs lo ≤ B) (high : natAbs hi ≤ B
 
   pub accepted : (n : ℕ) → verdict lo hi l n .number ≡ 0 → Sixteen B l × (n ≡ 16)
   accepted n e =
-      let p = passed (eqb (length l) 16 && eqb n 16) 5 0 (outside lo hi l) e in
-      let m = both (eqb (length l) 16) (eqb n 16) (p .0) in
-      let q = search-passed 6 16 (λ k. k) (seek (numberOk lo hi l) 0 16) done (p .1) in
-      (all-small (eqb-true (length l) 16 (m .0)) (q .0), eqb-true n 16 (m .1))
+      let p = passed (eqb (length l) 16) 5 1 0 (unless (eqb n 16) (refused 6 3 0) (outside lo hi l)) e in
+      let m = passed (eqb n 16) 5 3 0 (outside lo hi l) (p .1) in
+      let q = search-passed 6 1 16 (λ k. k) (seek (numberOk lo hi l) 0 16) done (m .1) in
+      (all-small (eqb-true (length l) 16 (p .0)) (q .0), eqb-true n 16 (m .0))
 
 pub put16 : (l : List ℤ) → length l ≡ 16 → (m : Block) → put4 (put4 (put4 (put4 l 0 (m .0)) 4 (m .1)) 8 (m .2)) 12 (m .3) ≡ flat m
 put16 l h m = ap (λ x. put4 (put4 (put4 (put4 x 0 (m .0)) 4 (m .1)) 8 (m .2)) 12 (m .3)) (sym (flat-block l h))

@@ -19,19 +19,19 @@ pub fn first_bad(l: &[i32], lo: i32, hi: i32) -> usize
     ranges::first_outside(l, 0, 4, 4, 4, lo, hi)
 }
 
-// The refusals 6 and 7 of a call that reads l and writes n numbers.
+// The refusals 6 and 7 of a call that reads l, slice 1, and writes n numbers, slice 3.
 fn judge(l: &[i32], n: usize, lo: i32, hi: i32) -> Answer
     ensures { λ r. ⌜ r ≡ verdict lo hi (now (l .entry)) n ⌝ }
 {
     if l.len() != 16 {
-        return answers::refusal(6, 0);
+        return answers::refusal(6, 1, 0);
     }
     if n != 16 {
-        return answers::refusal(6, 0);
+        return answers::refusal(6, 3, 0);
     }
     let found = first_bad(l, lo, hi);
     if found < 16 {
-        return answers::refusal(7, found);
+        return answers::refusal(7, 1, found);
     }
     answers::finished()
 }

@@ -1,5 +1,5 @@
 -- `chroma::judge` meets its contract: each test of the verdict, in its order, is the code's. Assumes nothing.
-use mathlib.Core.Path.{_≡_, sym, _∙_}
+use mathlib.Core.Path.{_≡_, sym, ap, _∙_}
 use mathlib.Core.Bool.{true, _&&_}
 use borrow.Author.Needs.{needs}
 use borrow.Author.Tests.{lt-leb, le-leb, ne-eqb, eq-eqb, not-true, not-false}
@@ -10,7 +10,8 @@ use mir.ValLaws.{toZ-ofZ}
 use Rattle.whole.specs.Search.{seek}
 use Rattle.whole.proofs.Num.{back}
 use Rattle.whole.proofs.Tests.{and-true}
-use Rattle.chroma.specs.Chroma.{low, high, pairOk, angleOk, verdict}
+use Rattle.answers.specs.Answers.{refused}
+use Rattle.chroma.specs.Chroma.{low, high, pairOk, angleOk, badOf, verdict}
 use Rattle.chroma.proofs.judge.Statement.{statement}
 use Rattle.chroma.proofs.judge.Tie as tie
 
@@ -26,6 +27,12 @@ bad-is c =
     let l = c .before .before in
     let h = c .before in
     rw (back (l .low-end .ok) ∙ l .low-end .ensures, back (h .high-end .ok) ∙ h .high-end .ensures) at (c .first-bad .ensures)
+
+slice-is : (c : tie.After-out-of-range) → let b = c .before .before in let s = b .before .before .before .before .before .before in c .out-of-range .result ≡ badOf (low (s .args .bd)) (high (s .args .bd)) (s .args .u .now) (b .first-bad .result)
+slice-is c =
+    let h = c .before .before .before in
+    let l = h .before in
+    rw (back (l .low-end .ok) ∙ l .low-end .ensures, back (h .high-end .ok) ∙ h .high-end .ensures) at (c .out-of-range .ensures)
 
 none : (c : tie.Else4) → let s = c .before .before .before .before .before .before .before in leb (length (s .args .u .now)) (seek (pairOk (low (s .args .bd)) (high (s .args .bd)) (s .args .u .now) (s .args .v .now)) 0 (length (s .args .u .now))) ≡ true
 none c = rw (← bad-is (c .before)) (le-leb _ _ (c .if4 .left))
@@ -56,12 +63,17 @@ returns-2 c =
     let d = c .before .before .before .args .bd in
     rw (le-leb 8 d (c .before .before .if1 .left), lt-leb d 12 (c .before .if2 .taken)) (c .refusal2 .ensures)
 
+shorter-requires : tie.Need-shorter-requires
+shorter-requires c κs = search needs
+
 refusal-requires-3 : tie.Need-refusal-requires-3
 refusal-requires-3 c κs = search needs
 
 returns-3 : tie.Need-returns-3
 unfolding verdict
-returns-3 c = rw (depth-ok (c .before .before), ne-eqb _ _ (c .before .if3 .taken)) (c .refusal3 .ensures)
+returns-3 c =
+    let t = c .before .before in
+    rw (depth-ok (t .before), ne-eqb _ _ (t .if3 .taken)) (c .refusal3 .ensures ∙ ap (λ k. refused 6 k 0) (c .before .shorter .ensures))
 
 add-low-end : tie.Need-add-low-end
 add-low-end c = search needs
@@ -78,15 +90,19 @@ high-end-requires c κs = search needs
 first-bad-requires : tie.Need-first-bad-requires
 first-bad-requires c κs = search needs
 
+out-of-range-requires : tie.Need-out-of-range-requires
+out-of-range-requires c κs = search needs
+
 refusal-requires-4 : tie.Need-refusal-requires-4
 refusal-requires-4 c κs = search needs
 
 returns-4 : tie.Need-returns-4
 unfolding verdict
 returns-4 c =
-    let b = c .before .before in
+    let o = c .before in
+    let b = o .before .before in
     let e = b .before .before .before in
-    rw (depth-ok (e .before), same e, ← bad-is b, lt-leb _ _ (c .before .if4 .taken)) (c .refusal4 .ensures)
+    rw (depth-ok (e .before), same e, ← bad-is b, lt-leb _ _ (o .before .if4 .taken)) (c .refusal4 .ensures ∙ ap (λ k. refused 7 k (b .first-bad .result)) (slice-is o))
 
 inside-requires : tie.Need-inside-requires
 inside-requires c κs = search needs
@@ -134,6 +150,7 @@ judge-spec =
     returns
     refusal-requires-2
     returns-2
+    shorter-requires
     refusal-requires-3
     returns-3
     add-low-end
@@ -141,6 +158,7 @@ judge-spec =
     add-high-end
     high-end-requires
     first-bad-requires
+    out-of-range-requires
     refusal-requires-4
     returns-4
     inside-requires

@@ -39,7 +39,7 @@ all-present : (c : tie.Else1) → 16 ≤ Bad (c .before .before .before)
 all-present c = subst (λ (k : ℕ). 16 ≤ k) (bad (c .before)) (c .if1 .left)
 
 then10 : (c : tie.Else1) → let s = c .before .before .before in samples (sample (s .args .depth)) (Cell s) (s .args .plane .now) (G s) ≡ leaves (sample (s .args .depth)) (Cell s) (s .args .plane .now) (G s)
-then10 c = let s = c .before .before .before in search-opens 8 16 (Cell s) (Bad s) (leaves (sample (s .args .depth)) (Cell s) (s .args .plane .now) (G s)) (all-present c)
+then10 c = let s = c .before .before .before in search-opens 8 2 16 (Cell s) (Bad s) (leaves (sample (s .args .depth)) (Cell s) (s .args .plane .now) (G s)) (all-present c)
 
 high-end-requires : tie.Need-high-end-requires
 high-end-requires c κs = search needs
@@ -58,8 +58,8 @@ returns c =
     let p = c .before in
     let b = p .before .before in
     let s = b .before .before in
-    c .refusal .ensures ∙ ap (λ k. refused 8 k) (p .spot-of .ensures ∙ ap (Cell s) (bad b))
-    ∙ sym (search-stops 8 16 (Cell s) (Bad s) (leaves (sample (s .args .depth)) (Cell s) (s .args .plane .now) (G s)) (subst (λ (k : ℕ). k < 16) (bad b) (p .before .if1 .taken)))
+    c .refusal .ensures ∙ ap (λ k. refused 8 2 k) (p .spot-of .ensures ∙ ap (Cell s) (bad b))
+    ∙ sym (search-stops 8 2 16 (Cell s) (Bad s) (leaves (sample (s .args .depth)) (Cell s) (s .args .plane .now) (G s)) (subst (λ (k : ℕ). k < 16) (bad b) (p .before .if1 .taken)))
 
 first-leaving-requires : tie.Need-first-leaving-requires
 first-leaving-requires c κs =
@@ -82,8 +82,8 @@ returns-2 c =
     let b = p .before .before in
     let e = b .before in
     let s = e .before .before .before in
-    c .refusal2 .ensures ∙ ap (λ k. refused 10 k) (p .spot-of2 .ensures ∙ ap (Cell s) (leaving b))
-    ∙ sym (then10 e ∙ search-stops 10 16 (Cell s) (Leaving s) done (subst (λ (k : ℕ). k < 16) (leaving b) (p .before .if2 .taken)))
+    c .refusal2 .ensures ∙ ap (λ k. refused 10 2 k) (p .spot-of2 .ensures ∙ ap (Cell s) (leaving b))
+    ∙ sym (then10 e ∙ search-stops 10 2 16 (Cell s) (Leaving s) done (subst (λ (k : ℕ). k < 16) (leaving b) (p .before .if2 .taken)))
 
 finished-requires : tie.Need-finished-requires
 finished-requires c κs = search needs
@@ -93,7 +93,7 @@ returns-3 c =
     let b = c .before .before in
     let e = b .before in
     let s = e .before .before .before in
-    c .finished .ensures ∙ sym (then10 e ∙ search-opens 10 16 (Cell s) (Leaving s) done (subst (λ (k : ℕ). 16 ≤ k) (leaving b) (c .before .if2 .left)))
+    c .finished .ensures ∙ sym (then10 e ∙ search-opens 10 2 16 (Cell s) (Leaving s) done (subst (λ (k : ℕ). 16 ≤ k) (leaving b) (c .before .if2 .left)))
 
 pub judge-spec : {M : Type 1} → statement M
 judge-spec =

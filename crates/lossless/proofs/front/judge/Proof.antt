@@ -1,17 +1,16 @@
 -- `lossless::front::judge` meets its contract: the tests in their order. Assumes nothing.
 use mathlib.Core.Path.{_≡_, sym, ap, _∙_, subst}
-use mathlib.Core.Bool.{true, _&&_}
+use mathlib.Core.Bool.{true}
 use Prim.Native.Nat.{ℕ, _≤_, _<_}
 use borrow.Author.Tests.{not-true, not-false, ne-eqb}
-use lib.Dec.{eqb}
 use lib.IntN.{pos, negℤ}
 use lib.ListN.{length}
 use Rattle.answers.specs.Answers.{done, refused}
-use Rattle.answers.proofs.Verdicts.{stops, search-opens, search-stops}
+use Rattle.answers.proofs.Verdicts.{opens, stops, search-opens, search-stops}
 use Rattle.whole.specs.Search.{seek}
 use Rattle.wht.specs.Calls.{numberOk}
-use Rattle.lossless.specs.Step.{Step, attempt, deep, strides, fits, front}
-use Rattle.lossless.proofs.Arguments.{from6, from7, stops1, is5, is6, is7, stride-is}
+use Rattle.lossless.specs.Step.{Step, attempt, deep, strides, front}
+use Rattle.lossless.proofs.Arguments.{from6, fromFit, from7, stops1, is5, is6, isFit, stride-is}
 use borrow.Author.Needs.{needs}
 use Rattle.lossless.proofs.front.judge.Statement.{statement}
 use Rattle.lossless.proofs.front.judge.Tie as tie
@@ -29,14 +28,17 @@ wide c = sym (c .before .between2 .ensures) ∙ not-false _ (c .if2 .left)
 then6 : (c : tie.Else2) → let s = c .before .before .before .before in front (s .args .n) (S s) ≡ from6 (s .args .n) (S s)
 then6 c = let s = c .before .before .before .before in is6 (s .args .n) (S s) (depths (c .before .before)) (wide c)
 
-fit : (c : tie.Else3) → let s = c .before .before .before .before .before .before in fits (S s .at) (s .args .n) ≡ true
-fit c = sym (c .before .block-fits .ensures) ∙ not-false _ (c .if3 .left)
+sixteen : (c : tie.Else3) → let s = c .before .before .before .before .before in front (s .args .n) (S s) ≡ fromFit (s .args .n) (S s)
+sixteen c =
+    let e = c .before in
+    let s = e .before .before .before .before in
+    isFit (s .args .n) (S s) (depths (e .before .before)) (wide e) (c .if3 .left)
 
 then7 : (c : tie.Else4) → let s = c .before .before .before .before .before .before .before in front (s .args .n) (S s) ≡ from7 (s .args .n) (S s)
 then7 c =
-    let e = c .before .before .before in
-    let s = e .before .before .before .before in
-    is7 (s .args .n) (S s) (depths (e .before .before)) (wide e) (fit (c .before)) (c .if4 .left)
+    let d = c .before in
+    let s = d .before .before .before .before .before .before in
+    sixteen (d .before) ∙ opens (refused 6 2 0) (from7 (s .args .n) (S s)) (sym (d .block-fits .ensures) ∙ not-false _ (c .if4 .left))
 
 abbrev Found : tie.After-first-bad → ℕ
 Found c = seek (numberOk (negℤ (pos 262144)) (pos 262144) (c .before .before .before .before .before .before .before .before .args .level .now)) 0 16
@@ -64,30 +66,29 @@ returns-2 c =
     let d = c .before .before in
     let e = d .before in
     let s = e .before .before in
-    c .refusal2 .ensures ∙ sym (is5 (s .args .n) (S s) (depths e) ∙ stops (refused 5 0) (from6 (s .args .n) (S s)) (sym (d .between2 .ensures) ∙ not-true _ (c .before .if2 .taken)))
-
-block-fits-requires : tie.Need-block-fits-requires
-block-fits-requires c κs = stride-is (S (c .before .before .before .before) .at) (wide c)
+    c .refusal2 .ensures ∙ sym (is5 (s .args .n) (S s) (depths e) ∙ stops (refused 5 0 0) (from6 (s .args .n) (S s)) (sym (d .between2 .ensures) ∙ not-true _ (c .before .if2 .taken)))
 
 refusal-requires-3 : tie.Need-refusal-requires-3
 refusal-requires-3 c κs = search needs
 
 returns-3 : tie.Need-returns-3
 returns-3 c =
-    let d = c .before .before in
-    let s = d .before .before .before .before .before in
-    c .refusal3 .ensures
-    ∙ sym (then6 (d .before) ∙ stops (refused 6 0) (from7 (s .args .n) (S s)) (ap (λ b. b && eqb (length (s .args .level .now)) 16) (sym (d .block-fits .ensures) ∙ not-true _ (c .before .if3 .taken))))
+    let e = c .before .before in
+    let s = e .before .before .before .before in
+    c .refusal3 .ensures ∙ sym (then6 e ∙ stops (refused 6 1 0) (fromFit (s .args .n) (S s)) (ne-eqb (length (s .args .level .now)) 16 (c .before .if3 .taken)))
+
+block-fits-requires : tie.Need-block-fits-requires
+block-fits-requires c κs = stride-is (S (c .before .before .before .before .before) .at) (wide (c .before))
 
 refusal-requires-4 : tie.Need-refusal-requires-4
 refusal-requires-4 c κs = search needs
 
 returns-4 : tie.Need-returns-4
 returns-4 c =
-    let f = c .before .before in
-    let s = f .before .before .before .before .before .before in
+    let d = c .before .before in
+    let s = d .before .before .before .before .before .before in
     c .refusal4 .ensures
-    ∙ sym (then6 (f .before .before) ∙ stops (refused 6 0) (from7 (s .args .n) (S s)) (ap (λ b. b && eqb (length (s .args .level .now)) 16) (fit f) ∙ ne-eqb (length (s .args .level .now)) 16 (c .before .if4 .taken)))
+    ∙ sym (sixteen (d .before) ∙ stops (refused 6 2 0) (from7 (s .args .n) (S s)) (sym (d .block-fits .ensures) ∙ not-true _ (c .before .if4 .taken)))
 
 first-bad-requires : tie.Need-first-bad-requires
 first-bad-requires c κs = search needs
@@ -98,8 +99,8 @@ refusal-requires-5 c κs = search needs
 returns-5 : tie.Need-returns-5
 returns-5 c =
     let b = c .before .before in
-    c .refusal5 .ensures ∙ ap (λ k. refused 7 k) (b .first-bad .ensures)
-    ∙ sym (then7 (b .before) ∙ search-stops 7 16 (λ k. k) (Found b) done (subst (λ (k : ℕ). k < 16) (b .first-bad .ensures) (c .before .if5 .taken)))
+    c .refusal5 .ensures ∙ ap (λ k. refused 7 1 k) (b .first-bad .ensures)
+    ∙ sym (then7 (b .before) ∙ search-stops 7 1 16 (λ k. k) (Found b) done (subst (λ (k : ℕ). k < 16) (b .first-bad .ensures) (c .before .if5 .taken)))
 
 finished-requires : tie.Need-finished-requires
 finished-requires c κs = search needs
@@ -108,7 +109,7 @@ returns-6 : tie.Need-returns-6
 returns-6 c =
     let b = c .before .before in
     c .finished .ensures
-    ∙ sym (then7 (b .before) ∙ search-opens 7 16 (λ k. k) (Found b) done (subst (λ (k : ℕ). 16 ≤ k) (b .first-bad .ensures) (c .before .if5 .left)))
+    ∙ sym (then7 (b .before) ∙ search-opens 7 1 16 (λ k. k) (Found b) done (subst (λ (k : ℕ). 16 ≤ k) (b .first-bad .ensures) (c .before .if5 .left)))
 
 pub judge-spec : {M : Type 1} → statement M
 judge-spec =
@@ -120,9 +121,9 @@ judge-spec =
     between-requires-2
     refusal-requires-2
     returns-2
-    block-fits-requires
     refusal-requires-3
     returns-3
+    block-fits-requires
     refusal-requires-4
     returns-4
     first-bad-requires

@@ -81,7 +81,7 @@ returns : tie.Need-returns
 returns c =
     let f = c .before .before in
     let s = f .before .before .before .before in
-    c .refusal .ensures ∙ rw (bad-coefficient f) (sym (search-stops 7 (cut (s .args .w) * cut (s .args .h)) (λ k. k) _ _ (omega (arith, bad-coefficient f, count (f .before .before), c .before .if1 .taken))))
+    c .refusal .ensures ∙ rw (bad-coefficient f) (sym (search-stops 7 1 (cut (s .args .w) * cut (s .args .h)) (λ k. k) _ _ (omega (arith, bad-coefficient f, count (f .before .before), c .before .if1 .taken))))
 
 high-end-requires : tie.Need-high-end-requires
 high-end-requires c κs = search needs
@@ -115,9 +115,9 @@ returns-2 c =
     let e = f .before .before in
     let s = e .before .before .before .before .before in
     c .refusal2 .ensures
-    ∙ ap (λ k. refused 8 k) (whole-place (s .args .stride) (s .args .w) (f .first-sample .result) ∙ ap (cellAt 0 (s .args .stride) (s .args .w)) (bad-sample f))
-    ∙ sym (search-opens 7 (cut (s .args .w) * cut (s .args .h)) (λ k. k) _ _ (none e)
-    ∙ search-stops 8 (s .args .h * s .args .w) (cellAt 0 (s .args .stride) (s .args .w)) _ done (omega (arith, bad-sample f, c .before .if2 .taken)))
+    ∙ ap (λ k. refused 8 2 k) (whole-place (s .args .stride) (s .args .w) (f .first-sample .result) ∙ ap (cellAt 0 (s .args .stride) (s .args .w)) (bad-sample f))
+    ∙ sym (search-opens 7 1 (cut (s .args .w) * cut (s .args .h)) (λ k. k) _ _ (none e)
+    ∙ search-stops 8 2 (s .args .h * s .args .w) (cellAt 0 (s .args .stride) (s .args .w)) _ done (omega (arith, bad-sample f, c .before .if2 .taken)))
 
 finished-requires : tie.Need-finished-requires
 finished-requires c κs = search needs
@@ -128,8 +128,8 @@ returns-3 c =
     let e = f .before .before in
     let s = e .before .before .before .before .before in
     c .finished .ensures
-    ∙ sym (search-opens 7 (cut (s .args .w) * cut (s .args .h)) (λ k. k) _ _ (none e)
-    ∙ search-opens 8 (s .args .h * s .args .w) (cellAt 0 (s .args .stride) (s .args .w)) _ done (omega (arith, bad-sample f, c .before .if2 .left)))
+    ∙ sym (search-opens 7 1 (cut (s .args .w) * cut (s .args .h)) (λ k. k) _ _ (none e)
+    ∙ search-opens 8 2 (s .args .h * s .args .w) (cellAt 0 (s .args .stride) (s .args .w)) _ done (omega (arith, bad-sample f, c .before .if2 .left)))
 
 pub judge-numbers-spec : {M : Type 1} → statement M
 judge-numbers-spec =
