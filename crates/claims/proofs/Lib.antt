@@ -1,5 +1,6 @@
 -- What is claimed. Each file opens with its statements in plain words.
 --     Answers    every call's answer and what it leaves
+--     Slices     which slice each refusal names
 --     Pixels     one lane and four lanes, dense table products, each pixel
 --     History    stepping back, and the wanted block
 --     Worked     P1 to P12
@@ -9,6 +10,7 @@
 --     a step that touches nothing                        crates/lossless/must-fail/touches_nothing.edit
 --     a stepper that works once and then says Done       no call keeps anything from one to the next; History speaks of stepOf at each place
 pub mod Answers
+pub mod Slices
 pub mod Pixels
 pub mod History
 pub mod Worked

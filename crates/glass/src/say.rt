@@ -79,26 +79,41 @@ pub fn error_of(line: usize, words: &[u8], n: usize, rest: &[u8]) {
 // What a refusal is about.
 fn about(refusal: u32) {
     match refusal {
-        1 => text(b"depth\n"),
-        2 => text(b"size number\n"),
-        3 => text(b"type number\n"),
-        4 => text(b"kind\n"),
-        5 => text(b"stride\n"),
-        6 => text(b"length or place\n"),
-        7 => text(b"coefficient or level\n"),
-        8 => text(b"sample\n"),
-        _ => text(b"sample after the step\n"),
+        1 => text(b"depth"),
+        2 => text(b"size number"),
+        3 => text(b"type number"),
+        4 => text(b"kind"),
+        5 => text(b"stride"),
+        6 => text(b"length or place"),
+        7 => text(b"coefficient or level"),
+        8 => text(b"sample"),
+        _ => text(b"sample after the step"),
     }
 }
 
-// A refusal.
+// The slice that a refusal is about, where there is one.
+fn about_slice(slice: u32) {
+    match slice {
+        0 => text(b"\n"),
+        1 => text(b", coefficients or levels\n"),
+        2 => text(b", prediction or plane\n"),
+        3 => text(b", output\n"),
+        4 => text(b", first chroma\n"),
+        _ => text(b", second chroma\n"),
+    }
+}
+
+// A refusal: its numbers, then the same in words.
 pub fn refused(a: Answer) {
     text(b": refused ");
     number(a.number as usize);
-    text(b" at ");
+    text(b", slice ");
+    number(a.slice as usize);
+    text(b", place ");
     number(a.place);
-    text(b", ");
+    text(b": ");
     about(a.number);
+    about_slice(a.slice);
 }
 
 // A step that was taken, or taken back.

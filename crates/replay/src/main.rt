@@ -1,4 +1,4 @@
-// Reads a case stream (CASES.md) on standard input to its end, and writes the answers on standard output.
+// Reads a case stream (docs/CASES.md) on standard input to its end, and writes the answers on standard output.
 // The files stdin and stdout hold recorded cases and their answers.
 //     nums      numbers as bytes, and bits as signed numbers
 //     floats    f32 numbers by their bits

@@ -67,9 +67,9 @@ pub fn write_word(word: u64) -> bool {
     io::write_all(STDOUT_FILENO, &bytes)
 }
 
-// Writes an answer, as two words: whether it went out.
+// Writes an answer, as three words: whether it went out.
 pub fn write_answer(r: Answer) -> bool {
-    write_word(r.number as u64) && write_word(r.place as u64)
+    write_word(r.number as u64) && write_word(r.place as u64) && write_word(r.slice as u64)
 }
 
 // Writes the numbers of a slice: whether they went out.
