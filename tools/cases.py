@@ -1,7 +1,7 @@
 #!/usr/bin/env python3
 """Usage: cases.py accepted|refused COUNT SEED > STREAM, or cases.py document|edges > STREAM: write cases of one sort.
 
-Random cases for the stream of CASES.md, from a seed: accepted ones over all sizes, kinds, depths and magnitudes, and
+Random cases for the stream of docs/CASES.md, from a seed: accepted ones over all sizes, kinds, depths and magnitudes, and
 refused ones, made by spoiling accepted ones. The fixed cases are in demands.py.
 """
 

@@ -434,7 +434,7 @@ def edges():
     return [demand for section in sections for demand in section()]
 
 
-# Streams that break the rules of CASES.md, each after one whole case.
+# Streams that break the rules of docs/CASES.md, each after one whole case.
 
 
 def broken_streams():

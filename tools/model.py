@@ -1,5 +1,5 @@
 #!/usr/bin/env python3
-"""Usage: model.py < STREAM > ANSWERS: answer a case stream (CASES.md) by document 01 alone.
+"""Usage: model.py < STREAM > ANSWERS: answer a case stream (docs/CASES.md) by document 01 alone.
 
 Whole numbers and dense table products; no butterfly, no machine number. Each call is a list of refusals in the order
 of their numbers, of which the first one counts, and the work that follows if there is none.

@@ -1,7 +1,7 @@
 #!/usr/bin/env python3
 """Usage: stream.py STREAM ANSWERS OTHER: describe the first case on which two files of answers differ.
 
-The case stream of CASES.md: its calls, its bytes, its answers.
+The case stream of docs/CASES.md: its calls, its bytes, its answers.
 """
 
 import array

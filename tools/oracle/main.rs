@@ -1,4 +1,4 @@
-// Usage: oracle < STREAM > ANSWERS: answer accepted cases of calls 1 to 6 (CASES.md) with the unchanged Rust.
+// Usage: oracle < STREAM > ANSWERS: answer accepted cases of calls 1 to 6 (docs/CASES.md) with the unchanged Rust.
 //
 // The source's text is included as it stands, twice: `one` runs its scalar passes, `four` its lane passes.
 // It judges nothing: a case that the port would refuse may panic here, wrap, or be answered.
