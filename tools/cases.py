@@ -240,13 +240,13 @@ def history(rng, steps):
         if rng.randrange(4) == 0:
             levels[rng.randrange(16)] += rng.choice((1, 2**depth, -(2**14)))
         cases.append(Case(8, [depth, stride, row, column], [levels, plane]))
-        number, _, after = model.outcome(cases[-1])
+        answer, after = model.outcome(cases[-1])
         plane = after.slices[1]
-        if number == 0:
+        if answer == model.DONE:
             taken.append(cases[-1])
     for case in reversed(taken):
         cases.append(Case(9, case.arguments, [case.slices[0], plane]))
-        plane = model.outcome(cases[-1])[2].slices[1]
+        plane = model.outcome(cases[-1])[1].slices[1]
     return cases
 
 
@@ -343,7 +343,7 @@ def refused(rng, make):
         case = copied(make())
         for fault in rng.choices(FAULTS, k=rng.choice((1, 1, 2, 3))):
             fault(rng, case)
-        if model.outcome(case)[0] != 0:
+        if model.outcome(case)[0] != model.DONE:
             return case
 
 

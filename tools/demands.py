@@ -1,6 +1,6 @@
-"""What document 01 lays down for single cases: its sums P1 to P12, its "Run:" lines, and both sides of each refusal.
+"""What documents 01 and 02 lay down for single cases: sums P1 to P12, "Run:" lines, both sides of each refusal, its slice.
 
-The answers are written here by hand from the document, so that a test can hold the model, and any other program,
+The answers are written here by hand from the documents, so that a test can hold the model, and any other program,
 against them.
 """
 
@@ -13,8 +13,8 @@ import tables
 from cases import RANGE, WHOLE
 from stream import Case
 
-# A case and its answer; slices is None where only number and place are laid down.
-Demand = collections.namedtuple("Demand", "label case number place slices", defaults=[0, 0, None])
+# A case and its answer; after is what the written slices hold then, None where only the answer is laid down.
+Demand = collections.namedtuple("Demand", "label case number slice place after", defaults=[0, 0, 0, None])
 
 PIXEL_CALLS = (1, 2, 3, 4)
 RECTANGULAR = (5, 6, 7, 8, 9, 10, 11, 12, 19, 20, 21, 22)
@@ -77,7 +77,7 @@ def on_pixel_calls(label, size, type, index, value, pixels):
     for call in PIXEL_CALLS:
         case = pixel(call, 8, size, type, with_number(lengths_of(size)[0], index, value))
         after = list(map(model.float_bits, pixels)) if call <= 2 else list(pixels)
-        yield Demand(f"{label}, call {call}", case, slices=[after])
+        yield Demand(f"{label}, call {call}", case, after=[after])
 
 
 def pixel_sums():
@@ -95,25 +95,25 @@ def pixel_sums():
 
 
 def other_sums():
-    yield Demand("P9", chroma([128, -128, 127, -127], [0] * 4, cosine=1), slices=[[1, -1, 0, 0], [0] * 4])
+    yield Demand("P9", chroma([128, -128, 127, -127], [0] * 4, cosine=1), after=[[1, -1, 0, 0], [0] * 4])
     transforms = (
         ("P10", [1, 2, 3, 4] + [0] * 12, [3, -1, 0, 0] + 3 * [2, -1, 0, -1]),
         ("P11", [-1] + [0] * 15, [0] * 4 + 3 * [0, -1, -1, -1]),
         ("P12", [1] * 16, [4] + [0] * 15),
     )
     for label, residual, levels in transforms:
-        yield Demand(label, wht(6, residual), slices=[levels])
-        yield Demand(f"{label} inverted", wht(7, levels), slices=[residual])
+        yield Demand(label, wht(6, residual), after=[levels])
+        yield Demand(f"{label} inverted", wht(7, levels), after=[residual])
     for call in (8, 9):
-        yield Demand(f"Run column 4, call {call}", lossless(call, column=4), slices=[[100] * 64])
-        yield Demand(f"Run column 5, call {call}", lossless(call, column=5), 6, 0, [[100] * 64])
+        yield Demand(f"Run column 4, call {call}", lossless(call, column=4), after=[[100] * 64])
+        yield Demand(f"Run column 5, call {call}", lossless(call, column=5), 6, 2, 0, [[100] * 64])
 
 
 def range_sums():
     for call in PIXEL_CALLS:
-        for size, value, number in ((5, RANGE[1] + 1, 7), (5, RANGE[1], 0), (0, WHOLE[1], 0)):
+        for size, value, *refusal in ((5, RANGE[1] + 1, 7, 1), (5, RANGE[1]), (0, WHOLE[1])):
             case = pixel(call, 8, size, 0, with_number(lengths_of(size)[0], 0, value))
-            yield Demand(f"Run {value} at size {size}, call {call}", case, number, 0)
+            yield Demand(f"Run {value} at size {size}, call {call}", case, *refusal)
 
 
 def document():
@@ -154,10 +154,10 @@ def kinds():
             if code < tables.CODES[length]:
                 yield Demand(label, pixel(call, size=size, type=type))
             else:
-                yield Demand(label, pixel(call, 8, size, type, [], []), 4, place)
+                yield Demand(label, pixel(call, 8, size, type, [], []), 4, place=place)
     for call in PIXEL_CALLS:
-        yield Demand("two missing kinds", pixel(call, type=4 | 5 << 5), 4, 0)
-        yield Demand("a class beside a missing kind", pixel(call, type=24 | 6 << 5), 4, 1)
+        yield Demand("two missing kinds", pixel(call, type=4 | 5 << 5), 4, place=0)
+        yield Demand("a class beside a missing kind", pixel(call, type=24 | 6 << 5), 4, place=1)
 
 
 def pixel_lengths():
@@ -168,21 +168,34 @@ def pixel_lengths():
             for rest in ([], whole.slices[i][1:]):
                 slices = whole.slices[:i] + [rest] + whole.slices[i + 1 :]
                 label = f"{len(rest)} {name}, size {size}"
-                yield Demand(label, Case(call, whole.arguments, slices), 6)
-    yield Demand("1,023 coefficients, size 4", add(3, size=4, coefficients=[0] * 1023), 6)
+                yield Demand(label, Case(call, whole.arguments, slices), 6, i + 1)
+    yield Demand("1,023 coefficients, size 4", add(3, size=4, coefficients=[0] * 1023), 6, 1)
     yield Demand("1,024 coefficients, size 4", add(3, size=4, coefficients=[0] * 1024))
+
+
+def several_short():
+    """Of several short slices the lowest is named, whichever lacks more."""
+    for call, size in itertools.product(PIXEL_CALLS, (0, 5, 24)):
+        whole = pixel(call, size=size)
+        names = stream.CALLS[call].slices
+        for lacks in itertools.product((0, 1, None), repeat=len(names)):
+            if lacks.count(0) < len(names) - 1:
+                slices = [values[lack:] if lack is not None else [] for values, lack in zip(whole.slices, lacks)]
+                lowest = next(i for i, lack in enumerate(lacks, 1) if lack != 0)
+                label = ", ".join(f"{len(values)} {name}" for values, name in zip(slices, names))
+                yield Demand(f"{label}, size {size}", Case(call, whole.arguments, slices), 6, lowest)
 
 
 def coefficient_ranges():
     for size in range(25):
         count = lengths_of(size)[0]
         for value in (RANGE[1] + 1, RANGE[0] - 1):
-            refusal = (7, count - 1) if size in RECTANGULAR else (0, 0)
+            refusal = (7, 1, count - 1) if size in RECTANGULAR else (0, 0, 0)
             case = add(3 + (value < 0), size=size, coefficients=with_number(count, count - 1, value))
             yield Demand(f"coefficient {value}, size {size}", case, *refusal)
     for call in PIXEL_CALLS:
         for value, place in itertools.product((*RANGE, *WHOLE), (0, 7, 31, 32)):
-            refusal = (7, place) if value in WHOLE and place < 32 else (0, 0)
+            refusal = (7, 1, place) if value in WHOLE and place < 32 else (0, 0, 0)
             case = pixel(call, size=5, coefficients=with_number(33, place, value))
             yield Demand(f"coefficient {value} at {place} of 32", case, *refusal)
         for value in WHOLE:
@@ -195,7 +208,7 @@ def sample_ranges():
             refused = place < 16 and not 0 <= value < 2**depth
             present = with_number(17, place, value, 100)
             label = f"sample {value} at {place} of 16, depth {depth}"
-            yield Demand(label, pixel(call, depth, present=present), *((8, place) if refused else (0, 0)))
+            yield Demand(label, pixel(call, depth, present=present), *((8, 2, place) if refused else (0, 0, 0)))
 
 
 def plane_pads():
@@ -203,7 +216,7 @@ def plane_pads():
     for call, value in itertools.product((3, 4), (-1, 256, *WHOLE)):
         plane = [value if at % 7 >= 4 else 100 for at in range(32)]
         yield Demand("pads", add(call, stride=7, plane=plane))
-        yield Demand("a sample among pads", add(call, stride=7, plane=plane[:24] + [value] + plane[25:]), 8, 24)
+        yield Demand("a sample among pads", add(call, stride=7, plane=plane[:24] + [value] + plane[25:]), 8, 2, 24)
 
 
 def add_strides():
@@ -213,10 +226,10 @@ def add_strides():
         for stride in (0, 3, 65_537, 2**31, 2**32 + 4, 2**63, 2**64 - 4, 2**64 - 1):
             yield Demand(f"stride {stride}", add(call, stride=stride), 5)
         for plane in ([], [100] * 16, [100] * 1000):
-            yield Demand("stride 65,536, a short plane", add(call, stride=65_536, plane=plane), 6)
-        for stride, length, number in ((7, 25, 0), (7, 24, 6), (4, 15, 6), (64, 195, 6), (64, 196, 0)):
+            yield Demand("stride 65,536, a short plane", add(call, stride=65_536, plane=plane), 6, 2)
+        for stride, length, *refusal in ((7, 25), (7, 24, 6, 2), (4, 15, 6, 2), (64, 195, 6, 2), (64, 196)):
             label = f"stride {stride}, {length} samples"
-            yield Demand(label, add(call, stride=stride, plane=[100] * length), number)
+            yield Demand(label, add(call, stride=stride, plane=[100] * length), *refusal)
         yield Demand("stride 31 at width 32", add(call, size=20, stride=31), 5)
         yield Demand("stride 32 at width 32", add(call, size=20, stride=32))
         yield Demand("stride 63 at width 64", add(call, size=24, stride=63), 5)
@@ -224,56 +237,67 @@ def add_strides():
 
 
 def chroma_edges():
-    for u, v, number in (([], [], 0), ([1], [], 6), ([], [1], 6), ([1] * 3, [1] * 4, 6), ([1] * 4, [1] * 3, 6)):
-        yield Demand(f"{len(u)} and {len(v)} chroma", chroma(u, v), number)
+    for u, v, *refusal in ((0, 0), (1, 0, 6, 5), (0, 1, 6, 4), (3, 4, 6, 4), (4, 3, 6, 5), (0, 40, 6, 4), (40, 1, 6, 5)):
+        for value in (1, WHOLE[1]):
+            yield Demand(f"{u} and {v} chroma of {value}", chroma([value] * u, [value] * v), *refusal)
     for depth in (8, 12):
         half = 2 ** (depth + 7)
         for value, number in ((-half, 0), (half - 1, 0), (-half - 1, 7), (half, 7), (WHOLE[0], 7), (WHOLE[1], 7)):
             for place in (0, 2, 4):
                 numbers = with_number(5, place, value)
-                refusal = (number, place if number else 0)
-                yield Demand(f"u {value} at {place}", chroma(numbers, [0] * 5, depth), *refusal)
-                yield Demand(f"v {value} at {place}", chroma([0] * 5, numbers, depth), *refusal)
-    far = with_number(5, 3, 40_000), with_number(5, 1, -40_000)
-    yield Demand("u at 3 and v at 1", chroma(*far), 7, 1)
-    yield Demand("v at 3 and u at 1", chroma(*far[::-1]), 7, 1)
+                refusal = lambda slice: (number, slice, place) if number else (0, 0, 0)
+                yield Demand(f"u {value} at {place}", chroma(numbers, [0] * 5, depth), *refusal(4))
+                yield Demand(f"v {value} at {place}", chroma([0] * 5, numbers, depth), *refusal(5))
+                yield Demand(f"both {value} at {place}", chroma(numbers, numbers, depth), *refusal(4))
+    for at, other in itertools.permutations(range(4), 2):
+        one, two = with_number(5, at, 40_000), with_number(5, other, -40_000)
+        both, first = [a or b for a, b in zip(one, two)], min(at, other)
+        yield Demand(f"u at {at} and v at {other}", chroma(one, two), 7, 4 if at == first else 5, first)
+        yield Demand(f"u at {at}, both at {other}", chroma(both, two), 7, 4, first)
+        yield Demand(f"v at {at}, both at {other}", chroma(two, both), 7, 5 if at == first else 4, first)
+    yield Demand("v bad in pair 0, u in pair 1", chroma([0, 32_768], [32_768, 0]), 7, 5, 0)
+    yield Demand("both bad in pair 0", chroma([32_768, 0], [-32_769, 0]), 7, 4, 0)
     for angle, number in ((-256, 0), (256, 0), (-257, 9), (257, 9), (WHOLE[0], 9), (WHOLE[1], 9)):
         for pair in ([], [3]):
-            yield Demand(f"sine {angle}", chroma(pair, pair, sine=angle), number, 0)
-            yield Demand(f"cosine {angle}", chroma(pair, pair, cosine=angle), number, 1 if number else 0)
+            yield Demand(f"sine {angle}", chroma(pair, pair, sine=angle), number)
+            yield Demand(f"cosine {angle}", chroma(pair, pair, cosine=angle), number, place=1 if number else 0)
 
 
 def wht_edges():
     for call, limit in ((6, 65_535), (7, 262_144)):
         for length in (0, 1, 15, 17, 32):
-            yield Demand(f"{length} to transform", wht(call, [0] * length), 6)
-            yield Demand(f"{length} for the result", wht(call, [0] * 16, [7] * length), 6)
-        yield Demand("17 and 15", wht(call, [0] * 17, [7] * 15), 6)
-        yield Demand("17, the last out of range", wht(call, [0] * 16 + [WHOLE[1]]), 6)
+            yield Demand(f"{length} to transform", wht(call, [0] * length), 6, 1)
+            yield Demand(f"{length} for the result", wht(call, [0] * 16, [7] * length), 6, 3)
+        for read, written in itertools.product((0, 15, 17), repeat=2):
+            yield Demand(f"{read} and {written}", wht(call, [0] * read, [7] * written), 6, 1)
+        yield Demand("17, the last out of range", wht(call, [0] * 16 + [WHOLE[1]]), 6, 1)
+        yield Demand("out of range, 17 for the result", wht(call, [WHOLE[1]] * 16, [7] * 17), 6, 3)
         for value in (-limit, limit):
             yield Demand(f"all {value}", wht(call, [value] * 16))
             yield Demand(f"{value} by turns", wht(call, [value, -value] * 8))
         for value, place in itertools.product((-limit - 1, limit + 1, *WHOLE), (0, 7, 15)):
-            yield Demand(f"{value} at {place}", wht(call, with_number(16, place, value)), 7, place)
-        yield Demand("two out of range", wht(call, [0] * 9 + [limit + 1, -limit - 1] + [0] * 5), 7, 9)
+            yield Demand(f"{value} at {place}", wht(call, with_number(16, place, value)), 7, 1, place)
+        yield Demand("two out of range", wht(call, [0] * 9 + [limit + 1, -limit - 1] + [0] * 5), 7, 1, 9)
 
 
 def lossless_places():
     for call in (8, 9):
-        for stride, number in ((0, 5), (3, 5), (4, 0), (65_536, 6), (65_537, 5), (2**32 + 8, 5), (2**64 - 1, 5)):
-            yield Demand(f"stride {stride}", lossless(call, stride=stride), number)
+        for stride, *refusal in ((0, 5), (3, 5), (4,), (65_536, 6, 2), (65_537, 5), (2**32 + 8, 5), (2**64 - 1, 5)):
+            yield Demand(f"stride {stride}", lossless(call, stride=stride), *refusal)
         for row in (5, 65_535, 65_536, 2**31, 2**32, 2**61, 2**62, 2**63, 2**64 - 3, 2**64 - 1):
-            yield Demand(f"row {row}", lossless(call, row=row), 6)
+            yield Demand(f"row {row}", lossless(call, row=row), 6, 2)
         for column in (5, 8, 2**32, 2**63, 2**64 - 8, 2**64 - 5, 2**64 - 4, 2**64 - 3, 2**64 - 1):
-            yield Demand(f"column {column}", lossless(call, column=column), 6)
-        for length, number in ((27, 6), (28, 0), (0, 6)):
+            yield Demand(f"column {column}", lossless(call, column=column), 6, 2)
+        for length, *refusal in ((27, 6, 2), (28,), (0, 6, 2)):
             label = f"{length} samples, stride 8"
-            yield Demand(label, lossless(call, plane=[100] * length), number)
-        for length, number in ((63, 6), (64, 0), (65, 0)):
+            yield Demand(label, lossless(call, plane=[100] * length), *refusal)
+        for length, *refusal in ((63, 6, 2), (64,), (65,)):
             label = f"{length} samples, the last block"
-            yield Demand(label, lossless(call, row=4, column=4, plane=[100] * length), number)
-        for length in (0, 15, 17):
-            yield Demand(f"{length} levels", lossless(call, levels=[0] * length), 6)
+            yield Demand(label, lossless(call, row=4, column=4, plane=[100] * length), *refusal)
+        for length in (0, 15, 17, 32):
+            yield Demand(f"{length} levels", lossless(call, levels=[0] * length), 6, 1)
+            for name, place in (("row", {"row": 5}), ("column", {"column": 5}), ("plane", {"plane": []})):
+                yield Demand(f"{length} levels, {name} too", lossless(call, levels=[0] * length, **place), 6, 1)
 
 
 def lossless_numbers():
@@ -281,11 +305,11 @@ def lossless_numbers():
     for call in (8, 9):
         make = lambda **words: lossless(call, row=2, column=3, **words)
         for value, place in itertools.product((-262_145, 262_145, *WHOLE), (0, 5, 15)):
-            yield Demand(f"level {value} at {place}", make(levels=with_number(16, place, value)), 7, place)
+            yield Demand(f"level {value} at {place}", make(levels=with_number(16, place, value)), 7, 1, place)
         for value, place in itertools.product((-1, 256, *WHOLE), (18, 19, 23, 29, 46, 47)):
-            refusal = (8, place) if place in (19, 29, 46) else (0, 0)
+            refusal = (8, 2, place) if place in (19, 29, 46) else (0, 0, 0)
             yield Demand(f"sample {value} at {place}", make(plane=with_number(64, place, value, 100)), *refusal)
-        yield Demand("level 262,144", make(levels=with_number(16, 0, 262_144)), 10, 19)
+        yield Demand("level 262,144", make(levels=with_number(16, 0, 262_144)), 10, 2, 19)
         towards = 1 if call == 8 else -1
         for index, place in ((0, 19), (5, 28), (15, 46)):
             for gain, at_end in ((1, 255), (-1, 0)):
@@ -293,13 +317,13 @@ def lossless_numbers():
                 label = f"{gain} more at {place}"
                 last = with_number(64, place, at_end, 100)
                 before = with_number(64, place, at_end - gain, 100)
-                yield Demand(f"{label}, at the end", make(levels=levels, plane=last), 10, place)
-                yield Demand(f"{label}, before it", make(levels=levels, plane=before), slices=[last])
+                yield Demand(f"{label}, at the end", make(levels=levels, plane=last), 10, 2, place)
+                yield Demand(f"{label}, before it", make(levels=levels, plane=before), after=[last])
 
 
-# Two refusals at once: the lowest number counts, then the lowest place.
+# Two refusals at once: the lowest number counts, then the lowest place, then the lowest slice.
 
-Fault = collections.namedtuple("Fault", "number place spoil")
+Fault = collections.namedtuple("Fault", "number slice place spoil")
 
 
 def argument(index, value):
@@ -348,59 +372,60 @@ def one_level_up(index, towards):
 
 
 BLOCK_FAULTS = [
-    Fault(1, 0, argument(0, 7)),
-    Fault(1, 0, argument(0, 13)),
-    Fault(2, 0, argument(1, 25)),
-    Fault(3, 0, in_type(256)),
-    Fault(4, 0, in_type(4)),
-    Fault(4, 1, in_type(6 << 5)),
-    Fault(6, 0, shorter(0)),
-    Fault(6, 0, shorter(1)),
-    Fault(7, 3, number_at(0, 3, RANGE[1] + 1)),
-    Fault(7, 2, number_at(0, 2, RANGE[0] - 1)),
+    Fault(1, 0, 0, argument(0, 7)),
+    Fault(1, 0, 0, argument(0, 13)),
+    Fault(2, 0, 0, argument(1, 25)),
+    Fault(3, 0, 0, in_type(256)),
+    Fault(4, 0, 0, in_type(4)),
+    Fault(4, 0, 1, in_type(6 << 5)),
+    Fault(6, 1, 0, shorter(0)),
+    Fault(6, 2, 0, shorter(1)),
+    Fault(7, 1, 3, number_at(0, 3, RANGE[1] + 1)),
+    Fault(7, 1, 2, number_at(0, 2, RANGE[0] - 1)),
 ]
 RECON_FAULTS = BLOCK_FAULTS + [
-    Fault(6, 0, shorter(2)),
-    Fault(8, 9, number_at(1, 9, 256)),
-    Fault(8, 6, number_at(1, 6, -1)),
+    Fault(6, 3, 0, shorter(2)),
+    Fault(8, 2, 9, number_at(1, 9, 256)),
+    Fault(8, 2, 6, number_at(1, 6, -1)),
 ]
 ADD_FAULTS = BLOCK_FAULTS + [
-    Fault(5, 0, argument(3, 3)),
-    Fault(5, 0, argument(3, 65_537)),
-    Fault(8, 8, number_at(1, 8, 256)),
-    Fault(8, 7, number_at(1, 7, -1)),
+    Fault(5, 0, 0, argument(3, 3)),
+    Fault(5, 0, 0, argument(3, 65_537)),
+    Fault(8, 2, 8, number_at(1, 8, 256)),
+    Fault(8, 2, 7, number_at(1, 7, -1)),
 ]
 CHROMA_FAULTS = [
-    Fault(1, 0, argument(0, 7)),
-    Fault(6, 0, longer(1)),
-    Fault(7, 2, number_at(0, 2, 600_000)),
-    Fault(7, 1, number_at(1, 1, -600_000)),
-    Fault(9, 0, argument(1, 257)),
-    Fault(9, 1, argument(2, -257)),
+    Fault(1, 0, 0, argument(0, 7)),
+    Fault(6, 4, 0, longer(1)),
+    Fault(7, 4, 2, number_at(0, 2, 600_000)),
+    Fault(7, 5, 1, number_at(1, 1, -600_000)),
+    Fault(7, 4, 1, number_at(0, 1, -600_000)),
+    Fault(9, 0, 0, argument(1, 257)),
+    Fault(9, 0, 1, argument(2, -257)),
 ]
 WHT_FAULTS = [
-    Fault(6, 0, shorter(0)),
-    Fault(6, 0, longer(1)),
-    Fault(7, 4, number_at(0, 4, 300_000)),
-    Fault(7, 3, number_at(0, 3, -300_000)),
+    Fault(6, 1, 0, shorter(0)),
+    Fault(6, 3, 0, longer(1)),
+    Fault(7, 1, 4, number_at(0, 4, 300_000)),
+    Fault(7, 1, 3, number_at(0, 3, -300_000)),
 ]
 
 
 def lossless_faults(towards):
     return [
-        Fault(1, 0, argument(0, 13)),
-        Fault(5, 0, argument(1, 3)),
-        Fault(5, 0, argument(1, 65_537)),
-        Fault(6, 0, argument(2, 65_536)),
-        Fault(6, 0, argument(3, 2**64 - 4)),
-        Fault(6, 0, shorter(0)),
-        Fault(6, 0, shorter(1)),
-        Fault(7, 4, number_at(0, 4, 300_000)),
-        Fault(7, 2, number_at(0, 2, -300_000)),
-        Fault(8, 45, number_at(1, 45, 256)),
-        Fault(8, 37, number_at(1, 37, -1)),
-        Fault(10, 28, one_level_up(5, towards)),
-        Fault(10, 20, one_level_up(1, towards)),
+        Fault(1, 0, 0, argument(0, 13)),
+        Fault(5, 0, 0, argument(1, 3)),
+        Fault(5, 0, 0, argument(1, 65_537)),
+        Fault(6, 2, 0, argument(2, 65_536)),
+        Fault(6, 2, 0, argument(3, 2**64 - 4)),
+        Fault(6, 1, 0, shorter(0)),
+        Fault(6, 2, 0, shorter(1)),
+        Fault(7, 1, 4, number_at(0, 4, 300_000)),
+        Fault(7, 1, 2, number_at(0, 2, -300_000)),
+        Fault(8, 2, 45, number_at(1, 45, 256)),
+        Fault(8, 2, 37, number_at(1, 37, -1)),
+        Fault(10, 2, 28, one_level_up(5, towards)),
+        Fault(10, 2, 20, one_level_up(1, towards)),
     ]
 
 
@@ -410,9 +435,9 @@ def spoilt(make, faults):
         case = make()
         for fault in chosen:
             fault.spoil(case)
-        lowest = min(chosen, key=lambda fault: (fault.number, fault.place))
-        label = "faults " + " ".join(f"{fault.number}@{fault.place}" for fault in chosen)
-        yield Demand(label, case, lowest.number, lowest.place)
+        lowest = min(chosen, key=lambda fault: (fault.number, fault.place, fault.slice))
+        label = "faults " + " ".join(f"{fault.number}/{fault.slice}@{fault.place}" for fault in chosen)
+        yield Demand(label, case, lowest.number, lowest.slice, lowest.place)
 
 
 def together():
@@ -429,8 +454,8 @@ def together():
 
 
 def edges():
-    sections = (depths, sizes_and_types, kinds, pixel_lengths, coefficient_ranges, sample_ranges, plane_pads)
-    sections += (add_strides, chroma_edges, wht_edges, lossless_places, lossless_numbers, together)
+    sections = (depths, sizes_and_types, kinds, pixel_lengths, several_short, coefficient_ranges, sample_ranges)
+    sections += (plane_pads, add_strides, chroma_edges, wht_edges, lossless_places, lossless_numbers, together)
     return [demand for section in sections for demand in section()]
 
 

@@ -8,7 +8,7 @@ import sys
 sys.dont_write_bytecode = True
 
 import model
-from stream import Case
+from stream import Answer, Case
 
 TOO_LONG = 262_144
 MOST_NUMBERS = 1028
@@ -25,6 +25,13 @@ REFUSALS = {
     7: "coefficient or level",
     8: "sample",
     10: "sample after the step",
+}
+SLICES = {
+    1: "coefficients or levels",
+    2: "prediction or plane",
+    3: "output",
+    4: "first chroma",
+    5: "second chroma",
 }
 
 # The counts of numbers that a command takes, how many of the first are never negative, and what it takes.
@@ -44,6 +51,9 @@ WORD = re.compile(rb"[^ \t\r]+")
 NUMBER = re.compile(rb"(-?)0*([0-9]{1,10})")
 
 Step = collections.namedtuple("Step", "row column levels")
+
+# The answer to a block or change that leaves the screen: it isn't given the samples that it needs.
+NO_SAMPLES = Answer(6, 2)
 
 
 class Bad(Exception):
@@ -75,8 +85,9 @@ def command_of(words):
     return name, numbers
 
 
-def refused(number, place):
-    return f"refused {number} at {place}, {REFUSALS[number]}"
+def refused(answer):
+    words = [REFUSALS[answer.number], *([SLICES[answer.slice]] if answer.slice else [])]
+    return f"refused {answer.number}, slice {answer.slice}, place {answer.place}: {', '.join(words)}"
 
 
 class Glass:
@@ -110,19 +121,19 @@ class Glass:
             raise Bad(f"the block has {count} coefficients")
         start = row * self.width + column
         slices = [[*coefficients, *[0] * (count - len(coefficients))], self.plane[start:]]
-        number, place, after = self.outcome(Case(3, [self.depth, size, type, self.width], slices))
-        if known and not 1 <= number <= 5 and not self.inside(row, column, *model.width_and_height(size)):
-            number, place = 6, 0
-        if number == 0:
+        answer, after = self.outcome(Case(3, [self.depth, size, type, self.width], slices))
+        if known and not 1 <= answer.number <= 5 and not self.inside(row, column, *model.width_and_height(size)):
+            answer = NO_SAMPLES
+        if answer == model.DONE:
             self.plane[start:] = after.slices[1]
             self.steps = []
-        return [f"block at row {row}, column {column}: {refused(number, place) if number else 'done'}"]
+        return [f"block at row {row}, column {column}: {'done' if answer == model.DONE else refused(answer)}"]
 
     def step(self, call, step):
         arguments = [self.depth, self.width, step.row, step.column]
-        number, place, after = self.outcome(Case(call, arguments, [step.levels, self.plane]))
+        answer, after = self.outcome(Case(call, arguments, [step.levels, self.plane]))
         self.plane = after.slices[1]
-        return number, place
+        return answer
 
     def change(self, row, column, *samples):
         top = 2**self.depth - 1
@@ -131,15 +142,15 @@ class Glass:
                 raise Bad(f"number {place} is outside 0 to {top}")
         if len(self.steps) == MOST_STEPS:
             raise Bad("no room for another step")
-        number, place = 6, 0
+        answer = NO_SAMPLES
         if self.inside(row, column, 4, 4):
             present = [self.plane[at] for at in model.places(self.width, row, column)]
             difference = [s - p for s, p in zip(samples, present)]
-            step = Step(row, column, self.outcome(Case(6, [], [difference, [0] * 16]))[2].slices[1])
-            number, place = self.step(8, step)
-        if number == 0:
+            step = Step(row, column, self.outcome(Case(6, [], [difference, [0] * 16]))[1].slices[1])
+            answer = self.step(8, step)
+        if answer == model.DONE:
             self.steps.append(step)
-        told = refused(number, place) if number else f"done, steps {len(self.steps)}"
+        told = f"done, steps {len(self.steps)}" if answer == model.DONE else refused(answer)
         return [f"change at row {row}, column {column}: {told}"]
 
     def undo(self, count=1):

@@ -1,8 +1,9 @@
 #!/usr/bin/env python3
-"""Usage: model.py < STREAM > ANSWERS: answer a case stream (docs/CASES.md) by document 01 alone.
+"""Usage: model.py < STREAM > ANSWERS: answer a case stream (docs/CASES.md) by documents 01 and 02 alone.
 
 Whole numbers and dense table products; no butterfly, no machine number. Each call is a list of refusals in the order
-of their numbers, of which the first one counts, and the work that follows if there is none.
+of their numbers, of which the first one counts, and the work that follows if there is none. The slices that refusals
+name are those of document 02, section 6.
 """
 
 import functools
@@ -14,8 +15,12 @@ sys.dont_write_bytecode = True
 
 import stream
 import tables
+from stream import Answer
 
-DONE = (0, 0)
+DONE = Answer(0)
+
+# The numbers of slices.
+READ, SAMPLES, OUTPUT, U, V = 1, 2, 3, 4, 5
 
 
 def clamp(value, low, high):
@@ -136,27 +141,34 @@ def outside(numbers, low, high):
 
 def depth_refusals(depth):
     if not 8 <= depth <= 12:
-        yield 1, 0
+        yield Answer(1)
 
 
 def block_refusals(depth, size, type):
     yield from depth_refusals(depth)
     if size > 24:
-        yield 2, 0
+        yield Answer(2)
     if type > 255:
-        yield 3, 0
+        yield Answer(3)
     w, h = width_and_height(size)
     if type & 7 >= tables.CODES[w]:
-        yield 4, 0
+        yield Answer(4, place=0)
     if type >> 5 >= tables.CODES[h]:
-        yield 4, 1
+        yield Answer(4, place=1)
+
+
+def short_refusals(lengths):
+    """Refusal 6: which slices, each by its number, are shorter than they have to be."""
+    for slice, (numbers, least) in sorted(lengths.items()):
+        if len(numbers) < least:
+            yield Answer(6, slice)
 
 
 def coefficient_refusals(size, coefficients):
     if rectangular(size):
         place = outside(coefficients[: used(size)[0]], -11_864_550, 11_864_549)
         if place is not None:
-            yield 7, place
+            yield Answer(7, READ, place)
 
 
 def sample_refusals(depth, plane, stride, width, height, start=0):
@@ -164,14 +176,14 @@ def sample_refusals(depth, plane, stride, width, height, start=0):
     for at in range(start, start + height * stride, stride):
         place = outside(plane[at : at + width], 0, 2**depth - 1)
         if place is not None:
-            yield 8, at + place
+            yield Answer(8, SAMPLES, at + place)
 
 
 def recon_refusals(depth, size, type, coefficients, prediction, output):
     yield from block_refusals(depth, size, type)
     w, h = width_and_height(size)
-    if len(coefficients) < used(size)[0] or min(len(prediction), len(output)) < w * h:
-        yield 6, 0
+    lengths = {READ: (coefficients, used(size)[0]), SAMPLES: (prediction, w * h), OUTPUT: (output, w * h)}
+    yield from short_refusals(lengths)
     yield from coefficient_refusals(size, coefficients)
     yield from sample_refusals(depth, prediction, w, w, h)
 
@@ -189,9 +201,8 @@ def add_refusals(depth, size, type, stride, coefficients, plane):
     yield from block_refusals(depth, size, type)
     w, h = width_and_height(size)
     if not w <= stride <= 65_536:
-        yield 5, 0
-    if len(coefficients) < used(size)[0] or len(plane) < (h - 1) * stride + w:
-        yield 6, 0
+        yield Answer(5)
+    yield from short_refusals({READ: (coefficients, used(size)[0]), SAMPLES: (plane, (h - 1) * stride + w)})
     yield from coefficient_refusals(size, coefficients)
     yield from sample_refusals(depth, plane, stride, w, h)
 
@@ -218,15 +229,16 @@ def over_256(value):
 def cctx_refusals(depth, sine, cosine, u, v):
     yield from depth_refusals(depth)
     if len(u) != len(v):
-        yield 6, 0
+        yield Answer(6, U if len(u) < len(v) else V)
     half = 2 ** (depth + 7)
-    places = [outside(numbers, -half, half - 1) for numbers in (u, v)]
-    if places != [None, None]:
-        yield 7, min(place for place in places if place is not None)
+    for place, pair in enumerate(zip(u, v)):
+        for slice, value in zip((U, V), pair):
+            if not -half <= value < half:
+                yield Answer(7, slice, place)
     if not -256 <= sine <= 256:
-        yield 9, 0
+        yield Answer(9, place=0)
     if not -256 <= cosine <= 256:
-        yield 9, 1
+        yield Answer(9, place=1)
 
 
 def cctx(depth, sine, cosine, u, v):
@@ -274,11 +286,13 @@ def inverse(levels):
 
 
 def wht_refusals(source, target, limit):
-    if len(source) != 16 or len(target) != 16:
-        yield 6, 0
+    if len(source) != 16:
+        yield Answer(6, READ)
+    if len(target) != 16:
+        yield Answer(6, OUTPUT)
     place = outside(source, -limit, limit)
     if place is not None:
-        yield 7, place
+        yield Answer(7, READ, place)
 
 
 def fwht4x4(residual, levels):
@@ -314,17 +328,19 @@ def moved(stride, row, column, levels, plane, sign):
 def lossless_refusals(depth, stride, row, column, levels, plane, sign):
     yield from depth_refusals(depth)
     if not 4 <= stride <= 65_536:
-        yield 5, 0
+        yield Answer(5)
+    if len(levels) != 16:
+        yield Answer(6, READ)
     reach = (row + 3) * stride + column + 4
-    if len(levels) != 16 or row > 65_535 or column + 4 > stride or len(plane) < reach:
-        yield 6, 0
+    if row > 65_535 or column + 4 > stride or len(plane) < reach:
+        yield Answer(6, SAMPLES)
     place = outside(levels, -262_144, 262_144)
     if place is not None:
-        yield 7, place
+        yield Answer(7, READ, place)
     yield from sample_refusals(depth, plane, stride, 4, 4, row * stride + column)
     for at, sample in moved(stride, row, column, levels, plane, sign):
         if not 0 <= sample < 2**depth:
-            yield 10, at
+            yield Answer(10, SAMPLES, at)
 
 
 def lossless(depth, stride, row, column, levels, plane, sign):
@@ -355,15 +371,15 @@ CALLS = {
 
 
 def outcome(case):
-    """A case's number, place, and the case with its slices as the call leaves them; the case itself stays."""
+    """A case's answer, and the case with its slices as the call leaves them; the case itself stays."""
     after = stream.Case(case.call, case.arguments, [list(values) for values in case.slices])
-    number, place = CALLS[case.call](*after.arguments, *after.slices)
-    return number, place, after
+    return CALLS[case.call](*after.arguments, *after.slices), after
 
 
 def answer(case):
-    number, place, after = outcome(case)
-    return stream.encode_answer(after, number, place)
+    """The bytes that answer a case."""
+    given, after = outcome(case)
+    return stream.encode_answer(after, given)
 
 
 def replay(data, write):

@@ -15,6 +15,9 @@ BROKEN = struct.pack("<Q", 2**64 - 1)
 Call = collections.namedtuple("Call", "name arguments slices written")
 Case = collections.namedtuple("Case", "call arguments slices")
 
+# Number 0 is Done, slice 0 none; the order is that of the record that a call returns.
+Answer = collections.namedtuple("Answer", "number slice place", defaults=[0, 0])
+
 
 class Broken(Exception):
     """The stream breaks its rules from here on."""
@@ -63,14 +66,21 @@ def encode(case):
     return b"".join(parts)
 
 
-def encode_answer(case, number, place):
+def encode_answer(case, answer):
     """The answer to a case whose written slices hold what the call left."""
     written = CALLS[case.call].written
-    return b"".join([word(number), word(place)] + [nums(case.slices[i]) for i in written])
+    words = [word(answer.number), word(answer.place), word(answer.slice)]
+    return b"".join(words + [nums(case.slices[i]) for i in written])
+
+
+def answer_in(data):
+    """The answer that stands at the beginning of its bytes."""
+    number, place, slice = struct.unpack_from("<QQQ", data)
+    return Answer(number, slice, place)
 
 
 def answer_length(case):
-    return 16 + 4 * sum(len(case.slices[i]) for i in CALLS[case.call].written)
+    return 24 + 4 * sum(len(case.slices[i]) for i in CALLS[case.call].written)
 
 
 class Reader:
@@ -142,11 +152,11 @@ def describe_difference(case, wanted, got):
     """Where two different answers to one case part."""
     if len(wanted) != len(got):
         return f"{len(got)} bytes instead of {len(wanted)}"
-    for name, at in (("number", 0), ("place", 8)):
+    for name, at in (("number", 0), ("place", 8), ("slice", 16)):
         a, b = (struct.unpack_from("<Q", answer, at)[0] for answer in (wanted, got))
         if a != b:
             return f"{name} {b} instead of {a}"
-    at = 16
+    at = 24
     for i in CALLS[case.call].written:
         name = CALLS[case.call].slices[i]
         form = "<f" if name == "output" else "<i"
@@ -156,6 +166,11 @@ def describe_difference(case, wanted, got):
                 return f"{name}[{index}] is {b} instead of {a}"
             at += 4
     return "no difference"
+
+
+def counts(refusals):
+    """How often each pair of a number and a slice was met, as text."""
+    return ", ".join(f"{number}/{slice}: {count}" for (number, slice), count in sorted(refusals.items()))
 
 
 def main(path, wanted_path, got_path):

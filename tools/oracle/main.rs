@@ -98,7 +98,7 @@ impl Reader {
 }
 
 fn done(answers: &mut Vec<u8>) {
-    answers.extend([0; 16]);
+    answers.extend([0; 24]);
 }
 
 fn put(answers: &mut Vec<u8>, nums: &[i32]) {
