@@ -1,9 +1,16 @@
-/* The nine calls of panel.h from C: the sums of document 01, each refusal of each call, null pointers with count 0.
-   What is expected is document 01's text, never an answer of the library. The last line is 'N passed, N failed'. */
+/* The nine calls of panel.h from C: the sums of document 01, each refusal of each call with its slice, null pointers with
+   count 0, the longest plane; and the sentences of panel_words.h. What is expected is the text of documents 01 and 02, never
+   an answer of the library. The last line is 'N passed, N failed'. */
 #include "panel.h"
+#include "panel_words.h"
+#include <sys/mman.h>
 
 int printf(const char *format, ...);
 int memcmp(const void *a, const void *b, size_t count);
+int strcmp(const char *a, const char *b);
+int seen_from_cplusplus(void);
+
+_Static_assert(sizeof(panel_answer) == 16, "an answer comes back in two registers");
 
 typedef panel_answer add_call(int32_t *, size_t, size_t, const int32_t *, size_t, size_t, size_t, uint32_t);
 typedef panel_answer float_call(float *, size_t, const int32_t *, size_t, size_t, size_t, uint32_t, const int32_t *, size_t);
@@ -45,7 +52,11 @@ static void fresh(void) {
 
 static int same(void) { return memcmp(&now, &before, sizeof now) == 0; }
 
-static int is(panel_answer a, uint32_t number, size_t place) { return a.number == number && a.place == place; }
+static int is(panel_answer a, uint32_t number, uint32_t slice, size_t place) {
+    return a.number == number && a.slice == slice && a.place == place;
+}
+
+static int done(panel_answer a) { return is(a, 0, 0, 0); }
 
 /* ---- The pixel calls */
 
@@ -111,74 +122,81 @@ static void try_sum(const struct pixel_form *f, const struct sum *s) {
         }
     }
     panel_answer answer = pixels(f, a);
-    expect(is(answer, 0, 0) && same(), f->name, s->name);
+    expect(done(answer) && same(), f->name, s->name);
 }
 
 /* Size 5, 4x8, has the rectangular scaling; every length is the shortest that is taken. */
 static const struct pixel_arguments usual = {32, 0, 5, 9, 67, 32, 32, 8};
 
-static void refuse(const struct pixel_form *f, struct pixel_arguments a, uint32_t number, size_t place, const char *what) {
+static void refuse(const struct pixel_form *f, struct pixel_arguments a, uint32_t number, uint32_t slice, size_t place,
+                   const char *what) {
     before = now;
     panel_answer answer = pixels(f, a);
-    expect(is(answer, number, place) && same(), f->name, what);
+    expect(is(answer, number, slice, place) && same(), f->name, what);
     fresh();
 }
 
 static void pixel_refusals(const struct pixel_form *f) {
     struct pixel_arguments a;
     fresh();
-#define WITH(field, value, number, place, what) a = usual, a.field = value, refuse(f, a, number, place, what)
-    WITH(depth, 7, 1, 0, "depth 7");
-    WITH(depth, 13, 1, 0, "depth 13");
-    WITH(tx, 25, 2, 0, "size 25");
-    WITH(txtp, 256, 3, 0, "type 256");
-    WITH(txtp, 4, 4, 0, "a DDT along 4");
-    WITH(txtp, 192, 4, 1, "vertical kind 6");
-    WITH(txtp, 228, 4, 0, "neither kind is there");
-    WITH(coeff_len, 31, 6, 0, "31 coefficients");
+#define WITH(field, value, number, slice, place, what) a = usual, a.field = value, refuse(f, a, number, slice, place, what)
+    WITH(depth, 7, 1, 0, 0, "depth 7");
+    WITH(depth, 13, 1, 0, 0, "depth 13");
+    WITH(tx, 25, 2, 0, 0, "size 25");
+    WITH(txtp, 256, 3, 0, 0, "type 256");
+    WITH(txtp, 4, 4, 0, 0, "a DDT along 4");
+    WITH(txtp, 192, 4, 0, 1, "vertical kind 6");
+    WITH(txtp, 228, 4, 0, 0, "neither kind is there");
+    WITH(coeff_len, 31, 6, 1, 0, "31 coefficients");
     if (f->add) {
-        WITH(stride, 3, 5, 0, "stride 3");
-        WITH(stride, 65537, 5, 0, "stride 65,537");
-        WITH(plane_len, 66, 6, 0, "a plane of 66");
+        WITH(stride, 3, 5, 0, 0, "stride 3");
+        WITH(stride, 65537, 5, 0, 0, "stride 65,537");
+        WITH(plane_len, 66, 6, 2, 0, "a plane of 66");
     } else {
-        WITH(pred_len, 31, 6, 0, "a prediction of 31");
-        WITH(out_len, 31, 6, 0, "an output of 31");
+        WITH(pred_len, 31, 6, 2, 0, "a prediction of 31");
+        WITH(out_len, 31, 6, 3, 0, "an output of 31");
     }
     a = usual;
+    a.plane_len = 66, a.pred_len = a.out_len = 31;
+    refuse(f, a, 6, 2, 0, "all but the coefficients short");
+    a.coeff_len = 31;
+    refuse(f, a, 6, 1, 0, "all buffers short");
+    a = usual;
     now.coeff[3] = 11864550;
-    refuse(f, a, 7, 3, "a coefficient of 11,864,550");
+    refuse(f, a, 7, 1, 3, "a coefficient of 11,864,550");
     now.coeff[30] = -11864551;
     now.coeff[31] = 11864550;
-    refuse(f, a, 7, 30, "a coefficient of -11,864,551");
+    refuse(f, a, 7, 1, 30, "a coefficient of -11,864,551");
     now.plane[19] = now.pred[19] = 256;
     now.plane[20] = now.pred[20] = -1;
-    refuse(f, a, 8, 19, "a sample of 256");
+    refuse(f, a, 8, 2, 19, "a sample of 256");
     now.plane[66] = now.pred[31] = -1;
-    refuse(f, a, 8, f->add ? 66 : 31, "a last sample of -1");
+    refuse(f, a, 8, 2, f->add ? 66 : 31, "a last sample of -1");
     now.coeff[31] = 11864550;
     now.plane[0] = now.pred[0] = 256;
-    refuse(f, a, 7, 31, "a coefficient before a sample");
+    refuse(f, a, 7, 1, 31, "a coefficient before a sample");
     a.depth = 7;
     a.tx = 25;
-    refuse(f, a, 1, 0, "a depth before a size");
+    refuse(f, a, 1, 0, 0, "a depth before a size");
 #undef WITH
     a = usual;
     now.coeff[0] = 11864549;
-    expect(is(pixels(f, a), 0, 0), f->name, "size 5 takes 11,864,549");
+    expect(done(pixels(f, a)), f->name, "size 5 takes 11,864,549");
     fresh();
     a.tx = 0;
     now.coeff[0] = 2147483647;
-    expect(is(pixels(f, a), 0, 0), f->name, "size 0 takes 2,147,483,647");
+    expect(done(pixels(f, a)), f->name, "size 0 takes 2,147,483,647");
     panel_answer nothing = f->add ? f->add(NULL, 0, 9, NULL, 0, 0, 5, 8) : f->floats(NULL, 0, NULL, 0, 0, 5, 8, NULL, 0);
-    expect(is(nothing, 6, 0), f->name, "null pointers");
+    expect(is(nothing, 6, 1, 0), f->name, "null pointers");
 }
 
 /* ---- Chroma */
 
-static void chroma(size_t u_len, size_t v_len, int32_t sine, int32_t cosine, uint32_t depth, uint32_t number, size_t place, const char *what) {
+static void chroma(size_t u_len, size_t v_len, int32_t sine, int32_t cosine, uint32_t depth, uint32_t number, uint32_t slice,
+                   size_t place, const char *what) {
     before = now;
     panel_answer answer = panel_cctx(now.u, u_len, now.v, v_len, sine, cosine, depth);
-    expect(is(answer, number, place) && same(), "panel_cctx", what);
+    expect(is(answer, number, slice, place) && same(), "panel_cctx", what);
     fresh();
 }
 
@@ -189,26 +207,33 @@ static void chroma_calls(void) {
     before = now;
     for (int i = 0; i < 4; i++) before.u[i] = turned[i];
     panel_answer answer = panel_cctx(now.u, 4, now.v, 4, 0, 1, 8);
-    expect(is(answer, 0, 0) && same(), "panel_cctx", "P9");
+    expect(done(answer) && same(), "panel_cctx", "P9");
     /* sin 256, cos 0: u' = -v, v' = u. */
     fresh();
     now.u[0] = 5, now.v[0] = 7;
     before = now;
     before.u[0] = -7, before.v[0] = 5;
     answer = panel_cctx(now.u, 1, now.v, 1, 256, 0, 8);
-    expect(is(answer, 0, 0) && same(), "panel_cctx", "a quarter turn");
+    expect(done(answer) && same(), "panel_cctx", "a quarter turn");
     fresh();
-    chroma(4, 4, 0, 1, 7, 1, 0, "depth 7");
-    chroma(4, 4, 0, 1, 13, 1, 0, "depth 13");
-    chroma(4, 3, 0, 1, 8, 6, 0, "unequal lengths");
+    chroma(4, 4, 0, 1, 7, 1, 0, 0, "depth 7");
+    chroma(4, 4, 0, 1, 13, 1, 0, 0, "depth 13");
+    chroma(3, 4, 0, 1, 8, 6, 4, 0, "one u too few");
+    chroma(4, 3, 0, 1, 8, 6, 5, 0, "one v too few");
+    chroma(0, 4, 0, 1, 8, 6, 4, 0, "no u");
+    chroma(4, 0, 0, 1, 8, 6, 5, 0, "no v");
     now.u[2] = 32768;
-    chroma(4, 4, 0, 1, 8, 7, 2, "u of 32,768");
+    chroma(4, 4, 0, 1, 8, 7, 4, 2, "u of 32,768");
     now.u[3] = 32768, now.v[1] = -32769;
-    chroma(4, 4, 0, 1, 8, 7, 1, "v of -32,769");
-    chroma(4, 4, -257, 257, 8, 9, 0, "sine -257");
-    chroma(4, 4, 256, 257, 8, 9, 1, "cosine 257");
-    chroma(0, 0, 0, 1, 8, 0, 0, "no pairs");
-    expect(is(panel_cctx(NULL, 0, NULL, 0, 0, 1, 8), 0, 0), "panel_cctx", "null pointers");
+    chroma(4, 4, 0, 1, 8, 7, 5, 1, "v of -32,769");
+    now.u[2] = -32769, now.v[2] = 32768;
+    chroma(4, 4, 0, 1, 8, 7, 4, 2, "both of a pair");
+    now.v[0] = 32768, now.u[1] = 32768;
+    chroma(4, 4, 0, 1, 8, 7, 5, 0, "v in pair 0, u in pair 1");
+    chroma(4, 4, -257, 257, 8, 9, 0, 0, "sine -257");
+    chroma(4, 4, 256, 257, 8, 9, 0, 1, "cosine 257");
+    chroma(0, 0, 0, 1, 8, 0, 0, 0, "no pairs");
+    expect(done(panel_cctx(NULL, 0, NULL, 0, 0, 1, 8)), "panel_cctx", "null pointers");
 }
 
 /* ---- Walsh-Hadamard */
@@ -227,26 +252,28 @@ static void load(int32_t *to, const int32_t *from) {
     for (int i = 0; i < 16; i++) to[i] = from[i];
 }
 
-static void turn(wht_call *call, const char *name, size_t from, size_t to, uint32_t number, size_t place, const char *what) {
+static void turn(wht_call *call, const char *name, size_t from, size_t to, uint32_t number, uint32_t slice, size_t place,
+                 const char *what) {
     before = now;
     panel_answer answer = call(now.from, from, now.to, to);
-    expect(is(answer, number, place) && same(), name, what);
+    expect(is(answer, number, slice, place) && same(), name, what);
     fresh();
 }
 
 static void wht_refusals(wht_call *call, const char *name, int32_t end) {
     fresh();
-    turn(call, name, 15, 16, 6, 0, "fifteen numbers read");
-    turn(call, name, 17, 16, 6, 0, "seventeen numbers read");
-    turn(call, name, 16, 15, 6, 0, "fifteen numbers written");
-    turn(call, name, 16, 17, 6, 0, "seventeen numbers written");
+    turn(call, name, 15, 16, 6, 1, 0, "fifteen numbers read");
+    turn(call, name, 17, 16, 6, 1, 0, "seventeen numbers read");
+    turn(call, name, 16, 15, 6, 3, 0, "fifteen numbers written");
+    turn(call, name, 16, 17, 6, 3, 0, "seventeen numbers written");
+    turn(call, name, 17, 15, 6, 1, 0, "seventeen read, fifteen written");
     now.from[2] = end + 1, now.from[3] = -end - 1;
-    turn(call, name, 16, 16, 7, 2, "a number above the range");
+    turn(call, name, 16, 16, 7, 1, 2, "a number above the range");
     now.from[15] = -end - 1;
-    turn(call, name, 16, 16, 7, 15, "a number below the range");
+    turn(call, name, 16, 16, 7, 1, 15, "a number below the range");
     fill(now.from, 16, end);
-    expect(is(call(now.from, 16, now.to, 16), 0, 0), name, "the end of the range");
-    expect(is(call(NULL, 0, NULL, 0), 6, 0), name, "null pointers");
+    expect(done(call(now.from, 16, now.to, 16)), name, "the end of the range");
+    expect(is(call(NULL, 0, NULL, 0), 6, 1, 0), name, "null pointers");
 }
 
 static void wht_sums(const struct pair *p) {
@@ -255,13 +282,13 @@ static void wht_sums(const struct pair *p) {
     before = now;
     load(before.to, p->level);
     panel_answer answer = panel_fwht4x4(now.from, 16, now.to, 16);
-    expect(is(answer, 0, 0) && same(), "panel_fwht4x4", p->name);
+    expect(done(answer) && same(), "panel_fwht4x4", p->name);
     fresh();
     load(now.from, p->level);
     before = now;
     load(before.to, p->resid);
     answer = panel_iwht4x4(now.from, 16, now.to, 16);
-    expect(is(answer, 0, 0) && same(), "panel_iwht4x4", p->name);
+    expect(done(answer) && same(), "panel_iwht4x4", p->name);
 }
 
 /* ---- Lossless steps */
@@ -278,44 +305,47 @@ static panel_answer gain(block_call *call, struct block_arguments a) {
     return call(a.depth, now.plane, a.plane_len, a.stride, a.row, a.column, now.from, a.level_len);
 }
 
-static void leave(block_call *call, const char *name, struct block_arguments a, uint32_t number, size_t place, const char *what) {
+static void leave(block_call *call, const char *name, struct block_arguments a, uint32_t number, uint32_t slice, size_t place,
+                  const char *what) {
     before = now;
     panel_answer answer = gain(call, a);
-    expect(is(answer, number, place) && same(), name, what);
+    expect(is(answer, number, slice, place) && same(), name, what);
     fresh();
 }
 
 static void block_refusals(block_call *call, const char *name, int32_t edge) {
     struct block_arguments a;
     fresh();
-#define WITH(field, value, number, place, what) a = block, a.field = value, leave(call, name, a, number, place, what)
-    WITH(depth, 7, 1, 0, "depth 7");
-    WITH(depth, 13, 1, 0, "depth 13");
-    WITH(stride, 3, 5, 0, "stride 3");
-    WITH(stride, 65537, 5, 0, "stride 65,537");
-    WITH(plane_len, 39, 6, 0, "a plane of 39");
-    WITH(row, 65536, 6, 0, "row 65,536");
-    WITH(column, 5, 6, 0, "column 5");
-    WITH(column, (size_t)-4, 6, 0, "a column that wraps");
-    WITH(level_len, 15, 6, 0, "fifteen levels");
-    WITH(level_len, 17, 6, 0, "seventeen levels");
-    WITH(depth, 8, 0, 0, "sixteen zero levels");
+#define WITH(field, value, number, slice, place, what) a = block, a.field = value, leave(call, name, a, number, slice, place, what)
+    WITH(depth, 7, 1, 0, 0, "depth 7");
+    WITH(depth, 13, 1, 0, 0, "depth 13");
+    WITH(stride, 3, 5, 0, 0, "stride 3");
+    WITH(stride, 65537, 5, 0, 0, "stride 65,537");
+    WITH(plane_len, 39, 6, 2, 0, "a plane of 39");
+    WITH(row, 65536, 6, 2, 0, "row 65,536");
+    WITH(column, 5, 6, 2, 0, "column 5");
+    WITH(column, (size_t)-4, 6, 2, 0, "a column that wraps");
+    WITH(level_len, 15, 6, 1, 0, "fifteen levels");
+    WITH(level_len, 17, 6, 1, 0, "seventeen levels");
+    a.plane_len = 39;
+    leave(call, name, a, 6, 1, 0, "seventeen levels and a plane of 39");
+    WITH(depth, 8, 0, 0, 0, "sixteen zero levels");
 #undef WITH
     a = block;
     now.from[2] = 262145, now.from[3] = -262145;
-    leave(call, name, a, 7, 2, "a level of 262,145");
+    leave(call, name, a, 7, 1, 2, "a level of 262,145");
     now.from[15] = -262145;
-    leave(call, name, a, 7, 15, "a level of -262,145");
+    leave(call, name, a, 7, 1, 15, "a level of -262,145");
     now.plane[20] = 256, now.plane[21] = -1;
-    leave(call, name, a, 8, 20, "a sample of 256");
+    leave(call, name, a, 8, 2, 20, "a sample of 256");
     now.plane[39] = -1;
-    leave(call, name, a, 8, 39, "a last sample of -1");
+    leave(call, name, a, 8, 2, 39, "a last sample of -1");
     now.from[0] = 4, now.plane[22] = edge, now.plane[39] = edge;
-    leave(call, name, a, 10, 22, "a sample that would leave");
+    leave(call, name, a, 10, 2, 22, "a sample that would leave");
     now.plane[11] = -1, now.plane[16] = 999, now.plane[40] = -1;
-    leave(call, name, a, 0, 0, "bad samples outside the block");
-    expect(is(call(8, NULL, 0, 8, 1, 4, now.from, 16), 6, 0), name, "a null plane");
-    expect(is(call(8, now.plane, 40, 8, 1, 4, NULL, 0), 6, 0), name, "null levels");
+    leave(call, name, a, 0, 0, 0, "bad samples outside the block");
+    expect(is(call(8, NULL, 0, 8, 1, 4, now.from, 16), 6, 2, 0), name, "a null plane");
+    expect(is(call(8, now.plane, 40, 8, 1, 4, NULL, 0), 6, 1, 0), name, "null levels");
 }
 
 /* A step by the levels of known residuals, then its undo, with the same arguments. */
@@ -327,10 +357,80 @@ static void block_sums(const struct pair *p) {
     for (int r = 0; r < 4; r++)
         for (int x = 0; x < 4; x++) before.plane[(1 + r) * 8 + 4 + x] += p->resid[r * 4 + x];
     panel_answer answer = gain(panel_lossless_step, block);
-    expect(is(answer, 0, 0) && same(), "panel_lossless_step", p->name);
+    expect(done(answer) && same(), "panel_lossless_step", p->name);
     before = start;
     answer = gain(panel_lossless_undo, block);
-    expect(is(answer, 0, 0) && same(), "panel_lossless_undo", p->name);
+    expect(done(answer) && same(), "panel_lossless_undo", p->name);
+}
+
+/* ---- The longest plane */
+
+/* Rows 65,535 and 65,536 of a plane of stride 65,536 need 16 GiB: a mapping of which only the pages that are touched exist. */
+#define STRIDE ((size_t)65536)
+#define REACH ((size_t)4295163904) /* what a block at row 65,535, column 65,532 reaches: 65,539 strides */
+#define BYTES ((REACH + STRIDE) * sizeof(int32_t))
+
+/* Whether the sixteen samples of a block are all of one value. */
+static int shows(const int32_t *plane, size_t stride, size_t row, size_t column, int32_t value) {
+    for (size_t r = 0; r < 4; r++)
+        for (size_t x = 0; x < 4; x++)
+            if (plane[(row + r) * stride + column + x] != value) return 0;
+    return 1;
+}
+
+/* Sixteen residuals of 1 (P12), so that a block of zeros becomes one of ones; the undo takes it back. */
+static void last_rows(int32_t *plane) {
+    const int32_t ones[16] = {4};
+    const char *step = "panel_lossless_step", *undo = "panel_lossless_undo";
+    size_t last = STRIDE - 4;
+    expect(is(panel_lossless_step(8, plane, REACH - 1, STRIDE, 65535, last, ones, 16), 6, 2, 0), step, "row 65,535, one short");
+    expect(shows(plane, STRIDE, 65535, last, 0), step, "row 65,535, one short: untouched");
+    expect(done(panel_lossless_step(8, plane, REACH, STRIDE, 65535, last, ones, 16)), step, "row 65,535");
+    expect(shows(plane, STRIDE, 65535, last, 1) && plane[REACH - 5] == 0 && plane[REACH] == 0, step, "row 65,535: its samples");
+    expect(is(panel_lossless_undo(8, plane, REACH - 1, STRIDE, 65535, last, ones, 16), 6, 2, 0), undo, "row 65,535, one short");
+    expect(done(panel_lossless_undo(8, plane, REACH, STRIDE, 65535, last, ones, 16)), undo, "row 65,535");
+    expect(shows(plane, STRIDE, 65535, last, 0), undo, "row 65,535: its samples");
+    expect(is(panel_lossless_step(8, plane, REACH + STRIDE, STRIDE, 65536, 0, ones, 16), 6, 2, 0), step, "row 65,536, a plane that reaches it");
+    expect(is(panel_lossless_undo(8, plane, REACH + STRIDE, STRIDE, 65536, 0, ones, 16), 6, 2, 0), undo, "row 65,536, a plane that reaches it");
+    expect(shows(plane, STRIDE, 65536, 0, 0), step, "row 65,536: untouched");
+    expect(is(panel_lossless_step(8, plane, REACH, STRIDE + 1, 0, 0, ones, 16), 5, 0, 0), step, "stride 65,537, a plane that reaches it");
+}
+
+/* P1 on samples of 0, at the widest stride. */
+static void widest_stride(add_call *call, const char *name, int32_t *plane) {
+    const int32_t coeff[16] = {15};
+    size_t reach = 3 * STRIDE + 4;
+    expect(is(call(plane, reach - 1, STRIDE, coeff, 16, 0, 0, 8), 6, 2, 0), name, "stride 65,536, one short");
+    expect(is(call(plane, REACH, STRIDE + 1, coeff, 16, 0, 0, 8), 5, 0, 0), name, "stride 65,537, a plane that reaches it");
+    expect(shows(plane, STRIDE, 0, 0, 0), name, "stride 65,536: untouched");
+    expect(done(call(plane, reach, STRIDE, coeff, 16, 0, 0, 8)), name, "stride 65,536");
+    expect(shows(plane, STRIDE, 0, 0, 1) && plane[4] == 0 && plane[STRIDE - 1] == 0 && plane[reach] == 0, name, "stride 65,536: its pixels");
+    for (size_t r = 0; r < 4; r++) fill(plane + r * STRIDE, 4, 0);
+}
+
+static void longest_plane(void) {
+    int32_t *plane = mmap(NULL, BYTES, PROT_READ | PROT_WRITE, MAP_PRIVATE | MAP_ANONYMOUS | MAP_NORESERVE, -1, 0);
+    expect(plane != MAP_FAILED, "mmap", "room for the longest plane");
+    if (plane == MAP_FAILED) return;
+    last_rows(plane);
+    widest_stride(panel_inv_txfm_add, "panel_inv_txfm_add", plane);
+    widest_stride(panel_inv_txfm_add_lanes, "panel_inv_txfm_add_lanes", plane);
+    munmap(plane, BYTES);
+}
+
+/* ---- Words */
+
+typedef const char *words(uint32_t);
+
+/* Numbers up to the last known one have sentences of their own, all different; the others share one. */
+static void sentences(words *of, const char *name, uint32_t last) {
+    const char *other = of(last + 1);
+    expect(other[0] != 0 && strcmp(of(0xffffffffu), other) == 0, name, "the largest number");
+    for (uint32_t n = 0; n <= 20; n++) {
+        int ok = of(n)[0] != 0 && (strcmp(of(n), other) == 0) == (n > last);
+        for (uint32_t m = 0; m < n && n <= last; m++) ok = ok && strcmp(of(m), of(n)) != 0;
+        expect(ok, name, of(n));
+    }
 }
 
 int main(void) {
@@ -347,6 +447,10 @@ int main(void) {
     wht_refusals(panel_iwht4x4, "panel_iwht4x4", 262144);
     block_refusals(panel_lossless_step, "panel_lossless_step", 255);
     block_refusals(panel_lossless_undo, "panel_lossless_undo", 0);
+    longest_plane();
+    sentences(panel_refusal_words, "panel_refusal_words", 15);
+    sentences(panel_slice_words, "panel_slice_words", 5);
+    expect(seen_from_cplusplus(), "panel_cctx", "from C++");
     printf("%d passed, %d failed\n", passed, failed);
     return failed != 0;
 }
