@@ -16,13 +16,18 @@ def source():
     return pathlib.Path(os.environ.get("SOURCE") or ROOT.parent / "shared/docs/src").resolve()
 
 
+def text_missing():
+    """Why the Rust's text can't be read here, or None. A SOURCE that was named and isn't there ends the program."""
+    if (source() / "src/av2/itx.rs").is_file():
+        return None
+    if os.environ.get("SOURCE"):
+        raise SystemExit(f"SOURCE is {os.environ['SOURCE']}, and no src/av2/itx.rs is in it")
+    return f"no Rust source in {os.path.relpath(source(), ROOT)}"
+
+
 def oracle_missing():
     """Why the Rust can't be run here, or None."""
-    if not (source() / "src/av2/itx.rs").is_file():
-        return f"no Rust source in {os.path.relpath(source(), ROOT)}"
-    if shutil.which("rustc") is None:
-        return "no rustc"
-    return None
+    return text_missing() or (None if shutil.which("rustc") else "no rustc")
 
 
 def build_oracle():
@@ -34,8 +39,18 @@ def build_oracle():
 
 
 def program(name):
-    """The command of a program under test: the variable of its name in capitals, or target/bin/ and its name by tools/run."""
-    return shlex.split(os.environ.get(name.upper(), "")) or [str(ROOT / "tools/run"), name]
+    """The command of a program under test: the variable of its name in capitals, or target/bin/ and its name by tools/run.
+
+    Where it isn't there, this program ends and says what to build.
+    """
+    command = shlex.split(os.environ.get(name.upper(), ""))
+    if command:
+        if not (shutil.which(command[0]) or (ROOT / command[0]).is_file()):
+            raise SystemExit(f"{name.upper()} is {shlex.join(command)}, and there is no {command[0]}")
+        return command
+    if not (ROOT / "target/bin" / name).is_file():
+        raise SystemExit(f"no target/bin/{name}: build it with rt check {name}")
+    return [str(ROOT / "tools/run"), name]
 
 
 def run(command, data):
