@@ -79,6 +79,14 @@ def answer_in(data):
     return Answer(number, slice, place)
 
 
+def outcome_in(case, data):
+    """The answer to a case by its bytes, and the case with its written slices as the call left them."""
+    reader, slices = Reader(data[24:]), [list(values) for values in case.slices]
+    for i in CALLS[case.call].written:
+        slices[i] = reader.numbers(len(slices[i]))
+    return answer_in(data), Case(case.call, case.arguments, slices)
+
+
 def answer_length(case):
     return 24 + 4 * sum(len(case.slices[i]) for i in CALLS[case.call].written)
 
@@ -101,7 +109,10 @@ class Reader:
         length = self.word()
         if length > LIMIT:
             raise Broken
-        values = array.array("i", self.take(4 * length))
+        return self.numbers(length)
+
+    def numbers(self, count):
+        values = array.array("i", self.take(4 * count))
         if sys.byteorder == "big":
             values.byteswap()
         return values.tolist()
