@@ -54,6 +54,7 @@ module _ (p : List ℤ) (w : Where) (b : List ℤ) (r : Ready p w) (wanted : Sam
       record {
         depths = r .depths;
         wide = r .wide;
+        visible = r .visible;
         fit = r .fit;
         levels = record { count = fwht-length (difference p w b); small = λ k h. le-trans (fwht-size (difference p w b) small k) (lit≤ tt) };
       }

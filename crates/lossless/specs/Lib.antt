@@ -1,7 +1,8 @@
--- The lossless step: Gains (samples that gain numbers), Step (the calls), History and Wanted (what is claimed of steps);
+-- The lossless step: Gains (samples that gain numbers), Step (the calls), History, Wanted and Pad (what is claimed of steps);
 -- Bounds serves the internal functions.
 pub mod Gains
 pub mod Step
 pub mod Bounds
 pub mod History
 pub mod Wanted
+pub mod Pad

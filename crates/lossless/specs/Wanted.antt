@@ -12,11 +12,12 @@ use lib.ListN.{length}
 use Rattle.whole.specs.Sums.{tab}
 use Rattle.wht.specs.Wht.{fwht}
 use Rattle.lossless.specs.Gains.{numbers}
-use Rattle.lossless.specs.Step.{Where, Step, spot, sample, deep, strides, fits}
+use Rattle.lossless.specs.Step.{Where, Step, spot, sample, deep, strides, widths, fits}
 
 pub record Ready (p : List ℤ) (w : Where) : Type 0 where
   pub depths : deep w ≡ true
   pub wide : strides w ≡ true
+  pub visible : widths w ≡ true
   pub fit : fits w (length p) ≡ true
   pub present : (k : ℕ) → k < 16 → sample (w .depth) (numbers p (spot w k)) ≡ true
 

@@ -1,4 +1,5 @@
 // The lossless step of document 01 and its undo: a 4x4 block of a plane gains the residuals of sixteen levels, with no clamp.
+// Document 02, section 2: the first width samples of each line are visible, and a block lies among those.
 ghost use mathlib.Core.Path.{_≡_};
 ghost use mathlib.Core.List.{map};
 ghost use lib.IntN.{negℤ};
@@ -43,14 +44,15 @@ fn step_or_undo(
     depth: u32,
     plane: &mut [i32],
     stride: usize,
+    width: usize,
     row: usize,
     column: usize,
     level: &[i32],
     undo: bool,
 ) -> Answer
-    ensures { λ r. ⌜ (r, now (plane .exit)) ≡ gainOf (now (plane .entry)) (attempt depth stride row column (now (level .entry))) (numbers (change undo (now (level .entry)))) ⌝ }
+    ensures { λ r. ⌜ (r, now (plane .exit)) ≡ gainOf (now (plane .entry)) (attempt depth stride width row column (now (level .entry))) (numbers (change undo (now (level .entry)))) ⌝ }
 {
-    let a = front::judge(plane.len(), depth, stride, row, column, level);
+    let a = front::judge(plane.len(), depth, stride, width, row, column, level);
     if a.number != 0 {
         return a;
     }
@@ -64,13 +66,14 @@ pub fn lossless_step(
     depth: u32,
     plane: &mut [i32],
     stride: usize,
+    width: usize,
     row: usize,
     column: usize,
     level: &[i32],
 ) -> Answer
-    ensures { λ r. ⌜ (r, now (plane .exit)) ≡ stepOf (now (plane .entry)) (attempt depth stride row column (now (level .entry))) ⌝ }
+    ensures { λ r. ⌜ (r, now (plane .exit)) ≡ stepOf (now (plane .entry)) (attempt depth stride width row column (now (level .entry))) ⌝ }
 {
-    step_or_undo(depth, plane, stride, row, column, level, false)
+    step_or_undo(depth, plane, stride, width, row, column, level, false)
 }
 
 // Each sample of the block loses its residual.
@@ -78,11 +81,12 @@ pub fn lossless_undo(
     depth: u32,
     plane: &mut [i32],
     stride: usize,
+    width: usize,
     row: usize,
     column: usize,
     level: &[i32],
 ) -> Answer
-    ensures { λ r. ⌜ (r, now (plane .exit)) ≡ undoOf (now (plane .entry)) (attempt depth stride row column (now (level .entry))) ⌝ }
+    ensures { λ r. ⌜ (r, now (plane .exit)) ≡ undoOf (now (plane .entry)) (attempt depth stride width row column (now (level .entry))) ⌝ }
 {
-    step_or_undo(depth, plane, stride, row, column, level, true)
+    step_or_undo(depth, plane, stride, width, row, column, level, true)
 }

@@ -20,7 +20,7 @@ use Rattle.lossless.proofs.step_or_undo.Statement.{statement}
 use Rattle.lossless.proofs.step_or_undo.Tie as tie
 
 abbrev S : tie.Start → Step
-S s = attempt (s .args .depth) (s .args .stride) (s .args .row) (s .args .column) (s .args .level .now)
+S s = attempt (s .args .depth) (s .args .stride) (s .args .width) (s .args .row) (s .args .column) (s .args .level .now)
 
 abbrev F : tie.Start → Answer
 F s = front (length (s .args .plane .now)) (S s)

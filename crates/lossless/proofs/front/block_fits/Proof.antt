@@ -8,7 +8,7 @@ use Rattle.lossless.proofs.front.block_fits.Statement.{statement}
 use Rattle.lossless.proofs.front.block_fits.Tie as tie
 
 product : (c : tie.Else2) → let s = c .before .before in (s .args .row + 3) * s .args .stride ≤ 65538 * 65536
-product c = let s = c .before .before in let h : s .args .row + 3 ≤ 65538 = omega arith in mul-le-mul h (s .pre .1)
+product c = let s = c .before .before in let h : s .args .row + 3 ≤ 65538 = omega arith in mul-le-mul h (s .pre .2)
 
 returns : tie.Need-returns
 returns c = rw (lt-leb (c .before .args .row) 65535 (c .if1 .taken))
@@ -19,8 +19,8 @@ sub-if2 c = search needs
 returns-2 : tie.Need-returns-2
 returns-2 c =
     let s = c .before .before in
-    let h : s .args .stride < s .args .column + 4 = omega arith in
-    rw (le-leb (s .args .row) 65535 (c .before .if1 .left), lt-leb (s .args .column + 4) (s .args .stride) h)
+    let h : s .args .width < s .args .column + 4 = omega arith in
+    rw (le-leb (s .args .row) 65535 (c .before .if1 .left), lt-leb (s .args .column + 4) (s .args .width) h)
 
 add-result : tie.Need-add-result
 add-result c = search needs
@@ -37,8 +37,8 @@ add-result-3 c = record { fits = omega (arith, product c) }
 returns-3 : tie.Need-returns-3
 returns-3 c =
     let s = c .before .before in
-    let h : s .args .column + 4 ≤ s .args .stride = omega arith in
-    rw (le-leb (s .args .row) 65535 (c .before .if1 .left), le-leb (s .args .column + 4) (s .args .stride) h)
+    let h : s .args .column + 4 ≤ s .args .width = omega arith in
+    rw (le-leb (s .args .row) 65535 (c .before .if1 .left), le-leb (s .args .column + 4) (s .args .width) h)
 
 pub block-fits-spec : {M : Type 1} → statement M
 block-fits-spec =
