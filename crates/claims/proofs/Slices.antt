@@ -26,7 +26,7 @@ use Rattle.chroma.specs.Chroma.{low, high, badOf, firstBad, angleOk, verdict, c
 use Rattle.wht.specs.Calls.{numberOk, outside, fwhtOf, iwhtOf}
 use Rattle.wht.specs.Calls as wht
 use Rattle.lossless.specs.Gains.{presentOk, laterOk, leaves, samples, judged, gaining}
-use Rattle.lossless.specs.Step.{Step, spot, sample, deep, strides, fits, front, gainOf, stepOf, undoOf}
+use Rattle.lossless.specs.Step.{Step, spot, sample, deep, strides, widths, fits, front, gainOf, stepOf, undoOf}
 use Rattle.claims.specs.Slices.{byNumber, enough, addSlice, floatSlice, chromaSlice, whtSlice, stepSlice}
 
 -- ---- pixels: six is what 6 names
@@ -115,9 +115,10 @@ module _ (p : List ℤ) (s : Step) where
   front-names =
       either Lossless (deep (s .at)) _ _ (λ e. refl) (λ e.
       either Lossless (strides (s .at)) _ _ (λ e. refl) (λ e.
+      either Lossless (widths (s .at)) _ _ (λ e. refl) (λ e.
       either Lossless (eqb (length (s .levels)) 16) _ _ (λ e. rw e) (λ e.
       either Lossless (fits (s .at) (length p)) _ _ (λ f. rw e) (λ f.
-      search-either 7 1 16 (λ k. k) (seek (numberOk (negℤ (pos 262144)) (pos 262144) (s .levels)) 0 16) done Lossless (λ g. refl) refl))))
+      search-either 7 1 16 (λ k. k) (seek (numberOk (negℤ (pos 262144)) (pos 262144) (s .levels)) 0 16) done Lossless (λ g. refl) refl)))))
 
   gain-slice : (g : ℕ → ℤ) → Lossless (gainOf p s g .0)
   unfolding gaining judged Lossless

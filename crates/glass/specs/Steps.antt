@@ -26,7 +26,7 @@ use Rattle.lossless.specs.Wanted.{difference}
 use Rattle.glass.specs.Planes.{natural, standsOf, onRoom}
 
 abbrev pub stepIn : ℕ → ℕ → List ℤ → Step
-stepIn depth width e = attempt depth width (natural (numbers e 0)) (natural (numbers e 1)) (drop 2 e)
+stepIn depth width e = attempt depth width width (natural (numbers e 0)) (natural (numbers e 1)) (drop 2 e)
 
 abbrev pub ready : ℕ → ℕ → ℕ → ℕ → ℕ → List ℤ → Bool
 ready depth width height row column p =

@@ -79,7 +79,7 @@ pub fn change(
         wanted,
         &mut entry[2..],
     );
-    lossless::lossless_step(depth, plane, width, row, column, &entry[2..])
+    lossless::lossless_step(depth, plane, width, width, row, column, &entry[2..])
 }
 
 // The step of an entry, taken back.
@@ -89,7 +89,7 @@ pub fn take_back(plane: &mut [i32], width: usize, depth: u32, entry: &[i32]) -> 
 {
     let row = natural(entry[0]);
     let column = natural(entry[1]);
-    lossless::lossless_undo(depth, plane, width, row, column, &entry[2..])
+    lossless::lossless_undo(depth, plane, width, width, row, column, &entry[2..])
 }
 
 // A change on a screen: the samples are the first of a room.

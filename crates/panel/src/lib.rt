@@ -93,19 +93,20 @@ pub extern "C" fn panel_iwht4x4(level: &[i32], resid: &mut [i32]) -> Answer
     wht::iwht4x4(level, resid)
 }
 
-// A lossless step on a 4x4 block of a plane.
+// A lossless step on a 4x4 block of a plane whose lines show width samples.
 #[no_mangle]
 pub extern "C" fn panel_lossless_step(
     depth: u32,
     plane: &mut [i32],
     stride: usize,
+    width: usize,
     row: usize,
     column: usize,
     level: &[i32],
 ) -> Answer
-    ensures { λ r. ⌜ (r, now (plane .exit)) ≡ stepOf (now (plane .entry)) (attempt depth stride row column (now (level .entry))) ⌝ }
+    ensures { λ r. ⌜ (r, now (plane .exit)) ≡ stepOf (now (plane .entry)) (attempt depth stride width row column (now (level .entry))) ⌝ }
 {
-    lossless::lossless_step(depth, plane, stride, row, column, level)
+    lossless::lossless_step(depth, plane, stride, width, row, column, level)
 }
 
 // Its undo, with the same arguments.
@@ -114,11 +115,12 @@ pub extern "C" fn panel_lossless_undo(
     depth: u32,
     plane: &mut [i32],
     stride: usize,
+    width: usize,
     row: usize,
     column: usize,
     level: &[i32],
 ) -> Answer
-    ensures { λ r. ⌜ (r, now (plane .exit)) ≡ undoOf (now (plane .entry)) (attempt depth stride row column (now (level .entry))) ⌝ }
+    ensures { λ r. ⌜ (r, now (plane .exit)) ≡ undoOf (now (plane .entry)) (attempt depth stride width row column (now (level .entry))) ⌝ }
 {
-    lossless::lossless_undo(depth, plane, stride, row, column, level)
+    lossless::lossless_undo(depth, plane, stride, width, row, column, level)
 }

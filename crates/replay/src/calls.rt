@@ -13,18 +13,19 @@ pub fn known(call: u64) -> bool {
 
 // How many words of arguments a call has.
 pub fn words(call: u64) -> usize
-    ensures { λ r. ⌜ r ≤ 4 ⌝ }
+    ensures { λ r. ⌜ r ≤ 5 ⌝ }
 {
     match call {
         6 | 7 => 0,
         1 | 2 | 5 => 3,
-        _ => 4,
+        3 | 4 => 4,
+        _ => 5,
     }
 }
 
 // Whether the words fit the arguments' types: the depth, first of the words wherever there are any, and the two of an angle.
 // The others are words themselves.
-pub fn in_types(call: u64, words: [u64; 4]) -> bool {
+pub fn in_types(call: u64, words: [u64; 5]) -> bool {
     if 4294967295 < words[0] {
         return false;
     }
@@ -34,7 +35,7 @@ pub fn in_types(call: u64, words: [u64; 4]) -> bool {
     true
 }
 
-fn case_1(words: [u64; 4], coeff: &[i32], pred: &[i32], bits: &mut [i32], out: &mut [f32]) -> Answer
+fn case_1(words: [u64; 5], coeff: &[i32], pred: &[i32], bits: &mut [i32], out: &mut [f32]) -> Answer
     requires { ⌜ length (now bits) ≡ length (now out) ⌝ }
 {
     floats::load(bits, out);
@@ -51,7 +52,7 @@ fn case_1(words: [u64; 4], coeff: &[i32], pred: &[i32], bits: &mut [i32], out: &
     r
 }
 
-fn case_2(words: [u64; 4], coeff: &[i32], pred: &[i32], bits: &mut [i32], out: &mut [f32]) -> Answer
+fn case_2(words: [u64; 5], coeff: &[i32], pred: &[i32], bits: &mut [i32], out: &mut [f32]) -> Answer
     requires { ⌜ length (now bits) ≡ length (now out) ⌝ }
 {
     floats::load(bits, out);
@@ -68,7 +69,7 @@ fn case_2(words: [u64; 4], coeff: &[i32], pred: &[i32], bits: &mut [i32], out: &
     r
 }
 
-fn case_3(words: [u64; 4], coeff: &[i32], plane: &mut [i32]) -> Answer {
+fn case_3(words: [u64; 5], coeff: &[i32], plane: &mut [i32]) -> Answer {
     let depth = nums::low(words[0]);
     let stride = words[3] as usize;
     pixels::inv_txfm_add(
@@ -81,7 +82,7 @@ fn case_3(words: [u64; 4], coeff: &[i32], plane: &mut [i32]) -> Answer {
     )
 }
 
-fn case_4(words: [u64; 4], coeff: &[i32], plane: &mut [i32]) -> Answer {
+fn case_4(words: [u64; 5], coeff: &[i32], plane: &mut [i32]) -> Answer {
     let depth = nums::low(words[0]);
     let stride = words[3] as usize;
     pixels::inv_txfm_add_lanes(
@@ -94,7 +95,7 @@ fn case_4(words: [u64; 4], coeff: &[i32], plane: &mut [i32]) -> Answer {
     )
 }
 
-fn case_5(words: [u64; 4], u: &mut [i32], v: &mut [i32]) -> Answer {
+fn case_5(words: [u64; 5], u: &mut [i32], v: &mut [i32]) -> Answer {
     let depth = nums::low(words[0]);
     let sine = nums::signed(nums::low(words[1]));
     let cosine = nums::signed(nums::low(words[2]));
@@ -109,7 +110,7 @@ fn case_7(levels: &[i32], residuals: &mut [i32]) -> Answer {
     wht::iwht4x4(levels, residuals)
 }
 
-fn case_8(words: [u64; 4], levels: &[i32], plane: &mut [i32]) -> Answer {
+fn case_8(words: [u64; 5], levels: &[i32], plane: &mut [i32]) -> Answer {
     let depth = nums::low(words[0]);
     let stride = words[1] as usize;
     lossless::lossless_step(
@@ -118,11 +119,12 @@ fn case_8(words: [u64; 4], levels: &[i32], plane: &mut [i32]) -> Answer {
         stride,
         words[2] as usize,
         words[3] as usize,
+        words[4] as usize,
         levels,
     )
 }
 
-fn case_9(words: [u64; 4], levels: &[i32], plane: &mut [i32]) -> Answer {
+fn case_9(words: [u64; 5], levels: &[i32], plane: &mut [i32]) -> Answer {
     let depth = nums::low(words[0]);
     let stride = words[1] as usize;
     lossless::lossless_undo(
@@ -131,6 +133,7 @@ fn case_9(words: [u64; 4], levels: &[i32], plane: &mut [i32]) -> Answer {
         stride,
         words[2] as usize,
         words[3] as usize,
+        words[4] as usize,
         levels,
     )
 }
@@ -138,7 +141,7 @@ fn case_9(words: [u64; 4], levels: &[i32], plane: &mut [i32]) -> Answer {
 // Runs a call on its arguments and slices. Floats stand in c by their bits, and f is room for them.
 pub fn run(
     call: u64,
-    words: [u64; 4],
+    words: [u64; 5],
     a: &mut [i32],
     b: &mut [i32],
     c: &mut [i32],

@@ -26,7 +26,7 @@ fn write_slices(call: u64, bytes: &mut [u8], a: &[i32], b: &[i32], c: &[i32]) ->
 // Runs a case that is there whole, and answers it: whether to go on.
 fn answer(
     call: u64,
-    words: [u64; 4],
+    words: [u64; 5],
     bytes: &mut [u8],
     a: &mut [i32],
     b: &mut [i32],
@@ -53,7 +53,7 @@ fn read_third(call: u64, bytes: &mut [u8], c: &mut [i32]) -> usize
 // Reads a case's slices, and answers it: whether to go on.
 fn slices(
     call: u64,
-    words: [u64; 4],
+    words: [u64; 5],
     bytes: &mut [u8],
     a: &mut [i32],
     b: &mut [i32],
@@ -96,7 +96,7 @@ fn case(
 ) -> bool
     requires { ⌜ Roomy (now bytes) (now a) (now b) (now c) (now f) ⌝ }
 {
-    let mut words = [0u64; 4];
+    let mut words = [0u64; 5];
     if !stream::read_words(&mut words, calls::words(call)) {
         return broken();
     }

@@ -27,8 +27,8 @@ pub fn read_word() -> Word {
 }
 
 // The next count words, to the start of a list: whether they were all there.
-pub fn read_words(list: &mut [u64; 4], count: usize) -> bool
-    requires { ⌜ count ≤ 4 ⌝ }
+pub fn read_words(list: &mut [u64; 5], count: usize) -> bool
+    requires { ⌜ count ≤ 5 ⌝ }
 {
     let mut i = 0;
     while i < count {
