@@ -1,4 +1,4 @@
-"""What documents 01 and 02 lay down for single cases: sums P1 to P12, "Run:" lines, both sides of each refusal, its slice.
+"""What documents 01 and 02 lay down for single cases: P1 to P12, "Run:" lines, both sides and the slice of each refusal.
 
 The answers are written here by hand from the documents, so that a test can hold the model, and any other program,
 against them.

@@ -383,28 +383,34 @@ static void last_rows(int32_t *plane) {
     const int32_t ones[16] = {4};
     const char *step = "panel_lossless_step", *undo = "panel_lossless_undo";
     size_t last = STRIDE - 4;
-    expect(is(panel_lossless_step(8, plane, REACH - 1, STRIDE, 65535, last, ones, 16), 6, 2, 0), step, "row 65,535, one short");
-    expect(shows(plane, STRIDE, 65535, last, 0), step, "row 65,535, one short: untouched");
-    expect(done(panel_lossless_step(8, plane, REACH, STRIDE, 65535, last, ones, 16)), step, "row 65,535");
-    expect(shows(plane, STRIDE, 65535, last, 1) && plane[REACH - 5] == 0 && plane[REACH] == 0, step, "row 65,535: its samples");
-    expect(is(panel_lossless_undo(8, plane, REACH - 1, STRIDE, 65535, last, ones, 16), 6, 2, 0), undo, "row 65,535, one short");
-    expect(done(panel_lossless_undo(8, plane, REACH, STRIDE, 65535, last, ones, 16)), undo, "row 65,535");
-    expect(shows(plane, STRIDE, 65535, last, 0), undo, "row 65,535: its samples");
-    expect(is(panel_lossless_step(8, plane, REACH + STRIDE, STRIDE, 65536, 0, ones, 16), 6, 2, 0), step, "row 65,536, a plane that reaches it");
-    expect(is(panel_lossless_undo(8, plane, REACH + STRIDE, STRIDE, 65536, 0, ones, 16), 6, 2, 0), undo, "row 65,536, a plane that reaches it");
-    expect(shows(plane, STRIDE, 65536, 0, 0), step, "row 65,536: untouched");
-    expect(is(panel_lossless_step(8, plane, REACH, STRIDE + 1, 0, 0, ones, 16), 5, 0, 0), step, "stride 65,537, a plane that reaches it");
+    panel_answer answer = panel_lossless_step(8, plane, REACH - 1, STRIDE, 65535, last, ones, 16);
+    expect(is(answer, 6, 2, 0) && shows(plane, STRIDE, 65535, last, 0), step, "row 65,535, one sample short");
+    answer = panel_lossless_step(8, plane, REACH, STRIDE, 65535, last, ones, 16);
+    expect(done(answer) && shows(plane, STRIDE, 65535, last, 1), step, "row 65,535");
+    expect(plane[REACH - 5] == 0 && plane[REACH] == 0, step, "beside row 65,535");
+    answer = panel_lossless_undo(8, plane, REACH - 1, STRIDE, 65535, last, ones, 16);
+    expect(is(answer, 6, 2, 0) && shows(plane, STRIDE, 65535, last, 1), undo, "row 65,535, one sample short");
+    answer = panel_lossless_undo(8, plane, REACH, STRIDE, 65535, last, ones, 16);
+    expect(done(answer) && shows(plane, STRIDE, 65535, last, 0), undo, "row 65,535");
+    answer = panel_lossless_step(8, plane, REACH + STRIDE, STRIDE, 65536, 0, ones, 16);
+    expect(is(answer, 6, 2, 0) && shows(plane, STRIDE, 65536, 0, 0), step, "row 65,536, which the plane reaches");
+    answer = panel_lossless_undo(8, plane, REACH + STRIDE, STRIDE, 65536, 0, ones, 16);
+    expect(is(answer, 6, 2, 0) && shows(plane, STRIDE, 65536, 0, 0), undo, "row 65,536, which the plane reaches");
+    answer = panel_lossless_step(8, plane, REACH, STRIDE + 1, 0, 0, ones, 16);
+    expect(is(answer, 5, 0, 0) && shows(plane, STRIDE + 1, 0, 0, 0), step, "stride 65,537");
 }
 
 /* P1 on samples of 0, at the widest stride. */
 static void widest_stride(add_call *call, const char *name, int32_t *plane) {
     const int32_t coeff[16] = {15};
     size_t reach = 3 * STRIDE + 4;
-    expect(is(call(plane, reach - 1, STRIDE, coeff, 16, 0, 0, 8), 6, 2, 0), name, "stride 65,536, one short");
-    expect(is(call(plane, REACH, STRIDE + 1, coeff, 16, 0, 0, 8), 5, 0, 0), name, "stride 65,537, a plane that reaches it");
-    expect(shows(plane, STRIDE, 0, 0, 0), name, "stride 65,536: untouched");
-    expect(done(call(plane, reach, STRIDE, coeff, 16, 0, 0, 8)), name, "stride 65,536");
-    expect(shows(plane, STRIDE, 0, 0, 1) && plane[4] == 0 && plane[STRIDE - 1] == 0 && plane[reach] == 0, name, "stride 65,536: its pixels");
+    panel_answer answer = call(plane, reach - 1, STRIDE, coeff, 16, 0, 0, 8);
+    expect(is(answer, 6, 2, 0) && shows(plane, STRIDE, 0, 0, 0), name, "stride 65,536, one sample short");
+    answer = call(plane, REACH, STRIDE + 1, coeff, 16, 0, 0, 8);
+    expect(is(answer, 5, 0, 0) && shows(plane, STRIDE + 1, 0, 0, 0), name, "stride 65,537");
+    answer = call(plane, reach, STRIDE, coeff, 16, 0, 0, 8);
+    expect(done(answer) && shows(plane, STRIDE, 0, 0, 1), name, "stride 65,536");
+    expect(plane[4] == 0 && plane[STRIDE - 1] == 0 && plane[reach] == 0, name, "beside stride 65,536");
     for (size_t r = 0; r < 4; r++) fill(plane + r * STRIDE, 4, 0);
 }
 
