@@ -1,4 +1,4 @@
--- Numbers as bytes, the lowest byte first (CASES.md). Definitions only.
+-- Numbers as bytes, the lowest byte first (docs/CASES.md). Definitions only.
 --     joined a b c d      the number of four bytes
 --     numAt, wordAt       the number of the four, of the eight bytes from a place on
 --     numPut, wordPut     a list of bytes with a number put in from a place on
