@@ -1,24 +1,34 @@
--- A pair turned and turned back with the sine negated, from document 02, section 11. Assumes nothing.
---     round-near      256 times a rounded number is within 128 of the number
---     twice-rounded   two rounded turns, the second with the sine negated, for one member of a pair
---     drift-u, drift-v     if none of the four numbers was clamped, either member's drift is at most the bound
-use mathlib.Core.Path.{_≡_, refl, sym, ap, _∙_, subst}
+-- A pair turned and turned back with the sine negated, from document 02, section 11. Over all whole numbers, and over two calls. Assumes nothing.
+--     round-near          256 times a rounded number is within 128 of the number
+--     twice-rounded       the drift of one member, by the errors of the three roundings on its way
+--     drift-u, drift-v    if none of the four numbers was clamped, either member's drift is at most the bound
+--     back-taken          the call that turns back is accepted where the first was
+--     calls-drift         the bound for pair i of two such calls
+use mathlib.Core.Path.{_≡_, sym, ap, _∙_, subst}
+use mathlib.Core.Bool.{true, _&&_}
 use mathlib.Core.List.{List, [], _∷_}
-use Prim.Native.Nat.{ℕ, zero, suc, _+_, _*_, _-_, _/_, _≤_, _<_}
+use Prim.Native.Nat.{ℕ, zero, suc, _+_, _*_, _-_, _/_, _^_, _≤_, _<_}
 use native.Mathlib.Nat as N
 use native.Mathlib.Omega.{arith}
-use lib.Dec.{ltb, ltb→lt, nltb→le}
+use borrow.Author.Tests.{eq-eqb}
+use lib.Dec.{ltb, ltb→lt, nltb→le, leb}
 use lib.IntN.{ℤ, pos, negsuc, negℤ, natAbs, _+ℤ_, _-ℤ_, _*ℤ_, *ℤ-comm, +ℤ-comm, negℤ-negℤ, negℤ-+ℤ}
 use lib.ListN.{length}
+use Rattle.whole.specs.Numbers.{inRange, clamp}
 use Rattle.whole.proofs.Ring.{distr, distl, neg-mul, mul-neg, *ℤ-assoc}
 use Rattle.whole.proofs.Machine.{var, con, _⊕_, _⊖_, _⊗_}
 use Rattle.whole.proofs.Linear.{lin}
-use Rattle.whole.proofs.Tests.{cond-case}
+use Rattle.whole.proofs.Tests.{cond-case, and-true}
 use Rattle.whole.proofs.Size.{abs-add, abs-neg, abs-mul}
+use Rattle.whole.proofs.Order.{range-low}
+use Rattle.whole.proofs.Range.{clamp-in-range, highest-size, size-in-range}
+use Rattle.whole.proofs.Search.{seek-all}
 use Rattle.whole.proofs.Fill.{length-tab}
-use Rattle.answers.proofs.Verdicts.{taken}
-use Rattle.chroma.specs.Chroma.{low, high, round256, turnU, turnV, item, turned, verdict, cctxOf}
-use Rattle.chroma.specs.Drift.{backU, backV, NoneClamped, drift, driftBound}
+use Rattle.answers.specs.Answers.{done, refused}
+use Rattle.answers.proofs.Verdicts.{passed, opens, search-opens, taken}
+use Rattle.chroma.specs.Chroma.{low, high, round256, turnU, turnV, item, turned, pairOk, angleOk, shorterOf, badOf, firstBad, verdict, cctxOf}
+use Rattle.chroma.specs.Drift.{backU, backV, backOf, NoneClamped, drift, driftBound}
+use Rattle.chroma.proofs.Verdict.{Accepted, accepted}
 use Rattle.chroma.proofs.Outcomes.{Takes, pair-turned}
 
 -- r is z / 256 to within a half
@@ -71,7 +81,7 @@ module _ (s c x y : ℤ) where
     parts =
         rw (times p a c, times q b s, sym turned-back)
         (lin (var 0 ⊗ con (pos 65536) ⊖ (var 3 ⊕ var 4)) ((var 0 ⊗ con (pos 256) ⊖ (var 1 ⊕ var 2)) ⊗ con (pos 256) ⊕ ((var 1 ⊗ con (pos 256) ⊖ var 3) ⊕ (var 2 ⊗ con (pos 256) ⊖ var 4)))
-          (r ∷ (p *ℤ c) ∷ (q *ℤ s) ∷ (a *ℤ c) ∷ (b *ℤ s) ∷ []) tt)
+        (r ∷ (p *ℤ c) ∷ (q *ℤ s) ∷ (a *ℤ c) ∷ (b *ℤ s) ∷ []) tt)
 
     pub twice-rounded : Near a p → Near b q → Near (p *ℤ c +ℤ q *ℤ s) r → natAbs (drift s c x r) ≤ driftBound s c
     twice-rounded h k l =
@@ -124,21 +134,50 @@ module _ (lo hi s c u v : ℤ) (free : NoneClamped lo hi s c u v) where
       subst (λ (z : ℤ). natAbs (v″ *ℤ pos 65536 -ℤ v *ℤ (z +ℤ c *ℤ c)) ≤ driftBound s c) (square-back s) (omega (arith, exchanged, abs-neg s))
 
 -- ---- two calls
-module _ (s c : ℤ) (depth : ℕ) (u v : List ℤ) where
+-- where no refusal applies, the answer is Done
+fine : (u v : List ℤ) (s c : ℤ) (depth : ℕ) → (leb 8 depth && leb depth 12) ≡ true → length u ≡ length v → ((k : ℕ) → k < length u → pairOk (low depth) (high depth) u v k ≡ true) → angleOk s ≡ true → angleOk c ≡ true → Takes s c depth u v
+unfolding verdict cctxOf
+fine u v s c depth d e f g h =
+    ap (λ a. a .number) (opens (refused 1 0 0) _ d ∙ opens (refused 6 (shorterOf (length u) (length v)) 0) _ (eq-eqb (length u) (length v) e)
+    ∙ search-opens 7 (badOf (low depth) (high depth) u (firstBad u v depth)) (length u) (λ k. k) (firstBad u v depth) _ (omega (arith, seek-all (pairOk (low depth) (high depth) u v) 0 (length u) (λ k l. f k (omega arith))))
+    ∙ opens (refused 9 0 0) _ g ∙ opens (refused 9 0 1) done h)
+
+clamped-ok : (depth : ℕ) (w z : ℤ) → w ≡ clamp (low depth) (high depth) z → inRange (low depth) (high depth) w ≡ true
+clamped-ok depth w z e = rw e (clamp-in-range (low depth) (high depth) z (range-low (2 ^ (depth + 7)) (high depth) (highest-size (depth + 7))))
+
+module _ (s c : ℤ) (depth : ℕ) (u v : List ℤ) (first : Takes s c depth u v) where
   abbrev there : List ℤ × List ℤ
   there = cctxOf u v s c depth .1
 
-  abbrev again : List ℤ × List ℤ
-  again = cctxOf (there .0) (there .1) (negℤ s) c depth .1
-
-  same-length : Takes s c depth u v → length (there .0) ≡ length u
+  lengths : (length (there .0) ≡ length u) × (length (there .1) ≡ length v)
   unfolding cctxOf
-  same-length h = ap (λ r. length (r .1 .0)) (taken {A = List ℤ × List ℤ} (verdict u v s c depth) (u, v) (turned (low depth) (high depth) s c u v) h) ∙ length-tab (length u) _
+  lengths =
+      let w = taken {A = List ℤ × List ℤ} (verdict u v s c depth) (u, v) (turned (low depth) (high depth) s c u v) first in
+      (ap (λ r. length (r .1 .0)) w ∙ length-tab (length u) _, ap (λ r. length (r .1 .1)) w ∙ length-tab (length v) _)
 
-  pub calls-drift : Takes s c depth u v → Takes (negℤ s) c depth (there .0) (there .1) → (i : ℕ) → i < length u → NoneClamped (low depth) (high depth) s c (item u i) (item v i)
-      → (natAbs (drift s c (item u i) (item (again .0) i)) ≤ driftBound s c) × (natAbs (drift s c (item v i) (item (again .1) i)) ≤ driftBound s c)
-  calls-drift h k i l free =
-      let p = pair-turned s c depth u v h i l in
-      let m : i < length (there .0) = omega (arith, same-length h) in
-      let q = pair-turned (negℤ s) c depth (there .0) (there .1) k i m in
+  depth-ok : (leb 8 depth && leb depth 12) ≡ true
+  unfolding verdict cctxOf
+  depth-ok = passed _ _ _ _ _ first .0
+
+  judged : Accepted u v s c depth
+  unfolding cctxOf
+  judged = accepted u v s c depth first
+
+  in-range : (k : ℕ) → k < length u → pairOk (low depth) (high depth) (there .0) (there .1) k ≡ true
+  in-range k l =
+      let p = pair-turned s c depth u v first k l in
+      and-true (clamped-ok depth (item (there .0) k) _ (p .0)) (clamped-ok depth (item (there .1) k) _ (p .1))
+
+  -- the call that turns back is accepted where the first was
+  pub back-taken : backOf u v s c depth .0 .number ≡ 0
+  back-taken =
+      fine (there .0) (there .1) (negℤ s) c depth depth-ok (lengths .0 ∙ judged .same ∙ sym (lengths .1)) (λ k l. in-range k (omega (arith, lengths .0)))
+      (size-in-range 255 (negℤ s) (omega (arith, judged .sine, abs-neg s))) (size-in-range 255 c (judged .cosine))
+
+  pub calls-drift : (i : ℕ) → i < length u → NoneClamped (low depth) (high depth) s c (item u i) (item v i)
+      → (natAbs (drift s c (item u i) (item (backOf u v s c depth .1 .0) i)) ≤ driftBound s c) × (natAbs (drift s c (item v i) (item (backOf u v s c depth .1 .1) i)) ≤ driftBound s c)
+  calls-drift i l free =
+      let p = pair-turned s c depth u v first i l in
+      let m : i < length (there .0) = omega (arith, lengths .0) in
+      let q = pair-turned (negℤ s) c depth (there .0) (there .1) back-taken i m in
       (rw (q .0, p .0, p .1) (drift-u (low depth) (high depth) s c (item u i) (item v i) free), rw (q .1, p .0, p .1) (drift-v (low depth) (high depth) s c (item u i) (item v i) free))
