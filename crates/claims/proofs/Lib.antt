@@ -2,6 +2,8 @@
 --     Answers    every call's answer and what it leaves
 --     Slices     which slice each refusal names
 --     Pixels     one lane and four lanes, dense table products, each pixel
+--     Chroma     pair by pair, and how far a pair drifts that is turned back
+--     Wht        each transform undoes the other
 --     History    stepping back, and the wanted block
 --     Worked     P1 to P12
 -- The useless versions of document 01, "How much each call owes", and the edits that are refused for being one:
@@ -12,5 +14,7 @@
 pub mod Answers
 pub mod Slices
 pub mod Pixels
+pub mod Chroma
+pub mod Wht
 pub mod History
 pub mod Worked
