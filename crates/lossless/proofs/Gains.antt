@@ -1,6 +1,6 @@
 -- Laws of `addOn` and `gain`. Assumes nothing.
 --     length-addOn, getD-addOn, addOn-same      the plane's length, a sample that gains, a sample that does not
---     addOn-none, addOn-back                    nothing gained; what is gained and lost again
+--     addOn-none, addOn-back, addOn-swap        nothing gained; what is gained and lost again; gains in either order
 --     gain-back, gain-none, gain-at             what an index gains: opposite numbers, none of the indices, one of them
 --     addOn-next                                a loop that adds number after number: one turn more
 use mathlib.Core.Path.{_≡_, refl, sym, ap, _∙_, subst}
@@ -13,7 +13,7 @@ use native.Mathlib.Numerals.{add-one}
 use native.Mathlib.Omega.{arith}
 use borrow.Author.Tests.{eqb-true, eqb-false, ne-eqb, eq-eqb}
 use lib.Dec.{eqb}
-use lib.IntN.{ℤ, pos, _+ℤ_, +ℤ-assoc, +ℤ-idr}
+use lib.IntN.{ℤ, pos, _+ℤ_, +ℤ-assoc, +ℤ-comm, +ℤ-idr}
 use lib.ListN.{length, set, length-set}
 use lib.Seq.{ext-getD, getD-set-same, getD-set-other}
 use Rattle.lossless.specs.Gains.{numbers, addOn, gain}
@@ -46,6 +46,12 @@ unfolding addOn
 addOn-back f g h [] = refl
 addOn-back f g h (x ∷ p) =
     λ i. (+ℤ-assoc x (f 0) (g 0) ∙ ap (λ z. x +ℤ z) (h 0) ∙ +ℤ-idr x) i ∷ addOn-back (λ j. f (suc j)) (λ j. g (suc j)) (λ j. h (suc j)) p i
+
+pub addOn-swap : (f g : ℕ → ℤ) (p : List ℤ) → addOn f (addOn g p) ≡ addOn g (addOn f p)
+unfolding addOn
+addOn-swap f g [] = refl
+addOn-swap f g (x ∷ p) =
+    λ i. (+ℤ-assoc x (g 0) (f 0) ∙ ap (λ z. x +ℤ z) (+ℤ-comm (g 0) (f 0)) ∙ sym (+ℤ-assoc x (f 0) (g 0))) i ∷ addOn-swap (λ j. f (suc j)) (λ j. g (suc j)) p i
 
 module _ (at : ℕ → ℕ) where
   pub gain-back : (g h : ℕ → ℤ) → ((k : ℕ) → g k +ℤ h k ≡ pos 0) → (n i : ℕ) → gain at g n i +ℤ gain at h n i ≡ pos 0
