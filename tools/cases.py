@@ -209,37 +209,39 @@ def wht(rng, call):
 
 
 def place_of_block(rng, room):
-    """Stride, row and column of a 4x4 block that a plane of that room can hold."""
+    """Stride, visible width, row and column of a 4x4 block that a plane of that room can hold."""
     row = rng.choice((0, 1, 2, rng.randrange(20), rng.randrange(room // 4 - 3)))
     largest = min(65_536, room // (row + 4))
     stride = rng.choice((4, 5, min(largest, rng.randint(4, 40)), rng.randint(4, largest)))
     stride = min(stride, largest)
-    return stride, row, rng.choice((0, stride - 4, rng.randint(0, stride - 4)))
+    width = rng.choice((stride, stride, rng.randint(4, stride)))
+    return stride, width, row, rng.choice((0, width - 4, rng.randint(0, width - 4)))
 
 
 def lossless(rng, call, room=1200):
     """An accepted step or undo: the levels lead from one block of samples to another."""
     depth = rng.randint(8, 12)
-    stride, row, column = place_of_block(rng, room)
+    stride, width, row, column = place_of_block(rng, room)
     plane = plane_of(rng, depth, stride, 4, 4, row * stride + column, room)
     present = [plane[at] for at in model.places(stride, row, column)]
     wanted = present if rng.randrange(10) == 0 else samples(rng, 16, depth)
     residual = [b - a if call == 8 else a - b for a, b in zip(present, wanted)]
-    return Case(call, [depth, stride, row, column], [model.forward(residual), plane])
+    return Case(call, [depth, stride, width, row, column], [model.forward(residual), plane])
 
 
 def history(rng, steps):
     """Steps on one plane, some of them refused, then the undoing of the taken ones, newest first."""
     depth, stride, rows = rng.randint(8, 12), rng.randint(6, 12), rng.randint(6, 12)
+    width = rng.randint(5, stride)
     plane = samples(rng, stride * rows, depth)
     cases, taken = [], []
     for _ in range(steps):
-        row, column = rng.randint(0, rows - 4), rng.randint(0, stride - 4)
+        row, column = rng.randint(0, rows - 4), rng.randint(0, width - 4)
         present = [plane[at] for at in model.places(stride, row, column)]
         levels = model.forward([b - a for a, b in zip(present, samples(rng, 16, depth))])
         if rng.randrange(4) == 0:
             levels[rng.randrange(16)] += rng.choice((1, 2**depth, -(2**14)))
-        cases.append(Case(8, [depth, stride, row, column], [levels, plane]))
+        cases.append(Case(8, [depth, stride, width, row, column], [levels, plane]))
         answer, after = model.outcome(cases[-1])
         plane = after.slices[1]
         if answer == model.DONE:
@@ -318,6 +320,7 @@ FAULTS = (
     missing_kind,
     missing_kind,
     set_argument("stride", 0, 1, 3, 7, 63, 65_536, 65_537, *HUGE),
+    set_argument("width", 0, 3, 4, 5, 65_536, 65_537, *HUGE),
     set_argument("row", 65_535, 65_536, *HUGE),
     set_argument("column", 1, 5, 65_533, *HUGE, 2**64 - 5, 2**64 - 3),
     set_argument("sine", -257, 257, *WHOLE),

@@ -58,9 +58,11 @@ def wht(call, source, target=None):
     return Case(call, [], [list(source), [7] * 16 if target is None else list(target)])
 
 
-def lossless(call, depth=8, stride=8, row=0, column=0, levels=None, plane=None):
+def lossless(call, depth=8, stride=8, width=None, row=0, column=0, levels=None, plane=None):
+    """A step or an undo; all of a line is visible where no width is named."""
     levels = [0] * 16 if levels is None else list(levels)
-    return Case(call, [depth, stride, row, column], [levels, [100] * 64 if plane is None else list(plane)])
+    arguments = [depth, stride, stride if width is None else width, row, column]
+    return Case(call, arguments, [levels, [100] * 64 if plane is None else list(plane)])
 
 
 def with_number(count, index, value, others=0):
@@ -105,8 +107,11 @@ def other_sums():
         yield Demand(label, wht(6, residual), after=[levels])
         yield Demand(f"{label} inverted", wht(7, levels), after=[residual])
     for call in (8, 9):
-        yield Demand(f"Run column 4, call {call}", lossless(call, column=4), after=[[100] * 64])
-        yield Demand(f"Run column 5, call {call}", lossless(call, column=5), 6, 2, 0, [[100] * 64])
+        for width, fits in ((8, 4), (6, 2)):
+            make = lambda column: lossless(call, stride=8, width=width, column=column)
+            label = f"call {call}, width {width}"
+            yield Demand(f"Run column {fits}, {label}", make(fits), after=[[100] * 64])
+            yield Demand(f"Run column {fits + 1}, {label}", make(fits + 1), 6, 2, 0, [[100] * 64])
 
 
 def range_sums():
@@ -300,6 +305,36 @@ def lossless_places():
                 yield Demand(f"{length} levels, {name} too", lossless(call, levels=[0] * length, **place), 6, 1)
 
 
+def lossless_widths():
+    """The visible width of document 02, section 2, at stride 8."""
+    for call in (8, 9):
+        for width, *refusal in ((0, 5), (3, 5), (4,), (5,), (8,), (9, 5), (65_536, 5), (2**32 + 6, 5), (2**64 - 1, 5)):
+            yield Demand(f"width {width}", lossless(call, width=width), *refusal)
+        for stride, width in ((3, 3), (3, 4), (65_537, 65_537), (2**64 - 1, 8)):
+            yield Demand(f"width {width}, stride {stride}", lossless(call, stride=stride, width=width), 5)
+        for width, column in itertools.product((4, 5, 6, 7, 8), (0, 1, 2, 3, 4, 5, 2**64 - 4, 2**64 - 2)):
+            refusal = () if column + 4 <= width else (6, 2)
+            yield Demand(f"width {width}, column {column}", lossless(call, width=width, column=column), *refusal)
+        yield Demand("width 3, column 5", lossless(call, width=3, column=5), 5)
+        yield Demand("width 3, 15 levels", lossless(call, width=3, levels=[0] * 15), 5)
+
+
+def lossless_pads():
+    """What stands in the pad, sample or not, is neither read nor written: width 6 at stride 8, columns 6 and 7."""
+    visible = lambda sample, pad: ([sample] * 6 + [pad] * 2) * 8
+    for (call, gain), pad in itertools.product(((8, 1), (9, -1)), (-1, 0, 255, 256, *WHOLE)):
+        make = lambda column, **words: lossless(call, width=6, row=3, column=column, levels=[4] + [0] * 15, **words)
+        after = visible(100, pad)
+        for row in range(3, 7):
+            after[8 * row + 2 : 8 * row + 6] = [100 + gain] * 4
+        label = f"pad of {pad}"
+        yield Demand(label, make(2, plane=visible(100, pad)), after=[after])
+        yield Demand(f"{label}, column 3", make(3, plane=visible(100, pad)), 6, 2)
+        yield Demand(f"{label}, column 6", make(6, plane=visible(100, pad)), 6, 2)
+        at_end = visible(255 if gain > 0 else 0, pad)
+        yield Demand(f"{label}, a refused sample", make(2, plane=at_end), 10, 2, 26)
+
+
 def lossless_numbers():
     """A block at row 2, column 3 of stride 8: its samples have the indices 19 to 22, 27 to 30, 35 to 38, 43 to 46."""
     for call in (8, 9):
@@ -416,8 +451,11 @@ def lossless_faults(towards):
         Fault(1, 0, 0, argument(0, 13)),
         Fault(5, 0, 0, argument(1, 3)),
         Fault(5, 0, 0, argument(1, 65_537)),
-        Fault(6, 2, 0, argument(2, 65_536)),
-        Fault(6, 2, 0, argument(3, 2**64 - 4)),
+        Fault(5, 0, 0, argument(2, 3)),
+        Fault(5, 0, 0, argument(2, 9)),
+        Fault(6, 2, 0, argument(3, 65_536)),
+        Fault(6, 2, 0, argument(4, 4)),
+        Fault(6, 2, 0, argument(4, 2**64 - 4)),
         Fault(6, 1, 0, shorter(0)),
         Fault(6, 2, 0, shorter(1)),
         Fault(7, 1, 4, number_at(0, 4, 300_000)),
@@ -449,13 +487,14 @@ def together():
     for call in (6, 7):
         yield from spoilt(lambda: wht(call, [0] * 16), WHT_FAULTS)
     for call, towards in ((8, 1), (9, -1)):
-        make = lambda: lossless(call, row=2, column=3, plane=[255] * 47)
+        make = lambda: lossless(call, width=7, row=2, column=3, plane=[255] * 47)
         yield from spoilt(make, lossless_faults(towards))
 
 
 def edges():
     sections = (depths, sizes_and_types, kinds, pixel_lengths, several_short, coefficient_ranges, sample_ranges)
-    sections += (plane_pads, add_strides, chroma_edges, wht_edges, lossless_places, lossless_numbers, together)
+    sections += (plane_pads, add_strides, chroma_edges, wht_edges, lossless_places, lossless_widths)
+    sections += (lossless_pads, lossless_numbers, together)
     return [demand for section in sections for demand in section()]
 
 

@@ -130,7 +130,7 @@ class Glass:
         return [f"block at row {row}, column {column}: {'done' if answer == model.DONE else refused(answer)}"]
 
     def step(self, call, step):
-        arguments = [self.depth, self.width, step.row, step.column]
+        arguments = [self.depth, self.width, self.width, step.row, step.column]
         answer, after = self.outcome(Case(call, arguments, [step.levels, self.plane]))
         self.plane = after.slices[1]
         return answer

@@ -3,7 +3,7 @@
 
 Whole numbers and dense table products; no butterfly, no machine number. Each call is a list of refusals in the order
 of their numbers, of which the first one counts, and the work that follows if there is none. The slices that refusals
-name are those of document 02, section 6.
+name are those of document 02, section 6; a step's visible width is that of section 2.
 """
 
 import functools
@@ -325,14 +325,16 @@ def moved(stride, row, column, levels, plane, sign):
     ]
 
 
-def lossless_refusals(depth, stride, row, column, levels, plane, sign):
+def lossless_refusals(depth, stride, width, row, column, levels, plane, sign):
     yield from depth_refusals(depth)
     if not 4 <= stride <= 65_536:
+        yield Answer(5)
+    if not 4 <= width <= stride:
         yield Answer(5)
     if len(levels) != 16:
         yield Answer(6, READ)
     reach = (row + 3) * stride + column + 4
-    if row > 65_535 or column + 4 > stride or len(plane) < reach:
+    if row > 65_535 or column + 4 > width or len(plane) < reach:
         yield Answer(6, SAMPLES)
     place = outside(levels, -262_144, 262_144)
     if place is not None:
@@ -343,8 +345,8 @@ def lossless_refusals(depth, stride, row, column, levels, plane, sign):
             yield Answer(10, SAMPLES, at)
 
 
-def lossless(depth, stride, row, column, levels, plane, sign):
-    verdict = next(lossless_refusals(depth, stride, row, column, levels, plane, sign), DONE)
+def lossless(depth, stride, width, row, column, levels, plane, sign):
+    verdict = next(lossless_refusals(depth, stride, width, row, column, levels, plane, sign), DONE)
     if verdict == DONE:
         for at, sample in moved(stride, row, column, levels, plane, sign):
             plane[at] = sample

@@ -32,7 +32,7 @@ def _add(name):
 
 
 def _lossless(name):
-    return Call(name, ("depth", "stride", "row", "column"), ("levels", "plane"), (1,))
+    return Call(name, ("depth", "stride", "width", "row", "column"), ("levels", "plane"), (1,))
 
 
 CALLS = {
