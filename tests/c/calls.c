@@ -15,7 +15,7 @@ _Static_assert(sizeof(panel_answer) == 16, "an answer comes back in two register
 typedef panel_answer add_call(int32_t *, size_t, size_t, const int32_t *, size_t, size_t, size_t, uint32_t);
 typedef panel_answer float_call(float *, size_t, const int32_t *, size_t, size_t, size_t, uint32_t, const int32_t *, size_t);
 typedef panel_answer wht_call(const int32_t *, size_t, int32_t *, size_t);
-typedef panel_answer block_call(uint32_t, int32_t *, size_t, size_t, size_t, size_t, const int32_t *, size_t);
+typedef panel_answer block_call(uint32_t, int32_t *, size_t, size_t, size_t, size_t, size_t, const int32_t *, size_t);
 
 /* Everything that is lent, in one place, so that one comparison shows that a refused call left all of it alone. */
 static struct lent {
@@ -295,14 +295,14 @@ static void wht_sums(const struct pair *p) {
 
 struct block_arguments {
     uint32_t depth;
-    size_t plane_len, stride, row, column, level_len;
+    size_t plane_len, stride, width, row, column, level_len;
 };
 
-/* A block at row 1, column 4 of a plane of stride 8, which reaches no further. */
-static const struct block_arguments block = {8, 40, 8, 1, 4, 16};
+/* A block at row 1, column 4 of a plane of stride and width 8, which reaches no further. */
+static const struct block_arguments block = {8, 40, 8, 8, 1, 4, 16};
 
 static panel_answer gain(block_call *call, struct block_arguments a) {
-    return call(a.depth, now.plane, a.plane_len, a.stride, a.row, a.column, now.from, a.level_len);
+    return call(a.depth, now.plane, a.plane_len, a.stride, a.width, a.row, a.column, now.from, a.level_len);
 }
 
 static void leave(block_call *call, const char *name, struct block_arguments a, uint32_t number, uint32_t slice, size_t place,
@@ -321,6 +321,9 @@ static void block_refusals(block_call *call, const char *name, int32_t edge) {
     WITH(depth, 13, 1, 0, 0, "depth 13");
     WITH(stride, 3, 5, 0, 0, "stride 3");
     WITH(stride, 65537, 5, 0, 0, "stride 65,537");
+    WITH(width, 3, 5, 0, 0, "width 3");
+    WITH(width, 9, 5, 0, 0, "width 9");
+    WITH(width, 7, 6, 2, 0, "width 7");
     WITH(plane_len, 39, 6, 2, 0, "a plane of 39");
     WITH(row, 65536, 6, 2, 0, "row 65,536");
     WITH(column, 5, 6, 2, 0, "column 5");
@@ -344,8 +347,8 @@ static void block_refusals(block_call *call, const char *name, int32_t edge) {
     leave(call, name, a, 10, 2, 22, "a sample that would leave");
     now.plane[11] = -1, now.plane[16] = 999, now.plane[40] = -1;
     leave(call, name, a, 0, 0, 0, "bad samples outside the block");
-    expect(is(call(8, NULL, 0, 8, 1, 4, now.from, 16), 6, 2, 0), name, "a null plane");
-    expect(is(call(8, now.plane, 40, 8, 1, 4, NULL, 0), 6, 1, 0), name, "null levels");
+    expect(is(call(8, NULL, 0, 8, 8, 1, 4, now.from, 16), 6, 2, 0), name, "a null plane");
+    expect(is(call(8, now.plane, 40, 8, 8, 1, 4, NULL, 0), 6, 1, 0), name, "null levels");
 }
 
 /* A step by the levels of known residuals, then its undo, with the same arguments. */
@@ -361,6 +364,22 @@ static void block_sums(const struct pair *p) {
     before = start;
     answer = gain(panel_lossless_undo, block);
     expect(done(answer) && same(), "panel_lossless_undo", p->name);
+}
+
+/* Width 6 at stride 8: column 2 fits and column 3 doesn't, and what stands in the pad is neither read nor written (P12). */
+static void narrow(block_call *call, const char *name, int32_t gained) {
+    struct block_arguments a = {8, 64, 8, 6, 2, 2, 16};
+    fresh();
+    for (size_t r = 0; r < 8; r++) fill(now.plane + r * 8 + 6, 2, -12345);
+    now.from[0] = 4;
+    before = now;
+    a.column = 3;
+    panel_answer answer = gain(call, a);
+    expect(is(answer, 6, 2, 0) && same(), name, "width 6, column 3");
+    for (size_t r = 2; r < 6; r++) fill(before.plane + r * 8 + 2, 4, 100 + gained);
+    a.column = 2;
+    answer = gain(call, a);
+    expect(done(answer) && same(), name, "width 6, column 2");
 }
 
 /* ---- The longest plane */
@@ -383,20 +402,20 @@ static void last_rows(int32_t *plane) {
     const int32_t ones[16] = {4};
     const char *step = "panel_lossless_step", *undo = "panel_lossless_undo";
     size_t last = STRIDE - 4;
-    panel_answer answer = panel_lossless_step(8, plane, REACH - 1, STRIDE, 65535, last, ones, 16);
+    panel_answer answer = panel_lossless_step(8, plane, REACH - 1, STRIDE, STRIDE, 65535, last, ones, 16);
     expect(is(answer, 6, 2, 0) && shows(plane, STRIDE, 65535, last, 0), step, "row 65,535, one sample short");
-    answer = panel_lossless_step(8, plane, REACH, STRIDE, 65535, last, ones, 16);
+    answer = panel_lossless_step(8, plane, REACH, STRIDE, STRIDE, 65535, last, ones, 16);
     expect(done(answer) && shows(plane, STRIDE, 65535, last, 1), step, "row 65,535");
     expect(plane[REACH - 5] == 0 && plane[REACH] == 0, step, "beside row 65,535");
-    answer = panel_lossless_undo(8, plane, REACH - 1, STRIDE, 65535, last, ones, 16);
+    answer = panel_lossless_undo(8, plane, REACH - 1, STRIDE, STRIDE, 65535, last, ones, 16);
     expect(is(answer, 6, 2, 0) && shows(plane, STRIDE, 65535, last, 1), undo, "row 65,535, one sample short");
-    answer = panel_lossless_undo(8, plane, REACH, STRIDE, 65535, last, ones, 16);
+    answer = panel_lossless_undo(8, plane, REACH, STRIDE, STRIDE, 65535, last, ones, 16);
     expect(done(answer) && shows(plane, STRIDE, 65535, last, 0), undo, "row 65,535");
-    answer = panel_lossless_step(8, plane, REACH + STRIDE, STRIDE, 65536, 0, ones, 16);
+    answer = panel_lossless_step(8, plane, REACH + STRIDE, STRIDE, STRIDE, 65536, 0, ones, 16);
     expect(is(answer, 6, 2, 0) && shows(plane, STRIDE, 65536, 0, 0), step, "row 65,536, which the plane reaches");
-    answer = panel_lossless_undo(8, plane, REACH + STRIDE, STRIDE, 65536, 0, ones, 16);
+    answer = panel_lossless_undo(8, plane, REACH + STRIDE, STRIDE, STRIDE, 65536, 0, ones, 16);
     expect(is(answer, 6, 2, 0) && shows(plane, STRIDE, 65536, 0, 0), undo, "row 65,536, which the plane reaches");
-    answer = panel_lossless_step(8, plane, REACH, STRIDE + 1, 0, 0, ones, 16);
+    answer = panel_lossless_step(8, plane, REACH, STRIDE + 1, STRIDE, 0, 0, ones, 16);
     expect(is(answer, 5, 0, 0) && shows(plane, STRIDE + 1, 0, 0, 0), step, "stride 65,537");
 }
 
@@ -453,6 +472,8 @@ int main(void) {
     wht_refusals(panel_iwht4x4, "panel_iwht4x4", 262144);
     block_refusals(panel_lossless_step, "panel_lossless_step", 255);
     block_refusals(panel_lossless_undo, "panel_lossless_undo", 0);
+    narrow(panel_lossless_step, "panel_lossless_step", 1);
+    narrow(panel_lossless_undo, "panel_lossless_undo", -1);
     longest_plane();
     sentences(panel_refusal_words, "panel_refusal_words", 15);
     sentences(panel_slice_words, "panel_slice_words", 5);
