@@ -4,6 +4,7 @@ use mathlib.Core.Path.{_≡_, sym, ap, _∙_, subst}
 use mathlib.Core.Bool.{true}
 use mathlib.Core.List.{List, _++_}
 use Prim.Native.Nat.{ℕ, _+_, _*_, _≤_, _<_}
+use native.Mathlib.Nat.{le-refl}
 use native.Mathlib.Omega.{arith}
 use borrow.Author.Tests.{le-leb, leb-true}
 use lib.Dec.{leb, lit<}
@@ -32,7 +33,7 @@ module _ (d w h : ℕ) (p b e : List ℤ) (n : length e ≡ 18) where
   column = natural (numbers e 1)
 
   abbrev spot-of : Where
-  spot-of = place d w row column
+  spot-of = place d w w row column
 
   abbrev levels : List ℤ
   levels = levelsTo d w h row column p b (drop 2 e)
@@ -49,7 +50,7 @@ module _ (d w h : ℕ) (p b e : List ℤ) (n : length e ≡ 18) where
 
     the-step : stepIn d w (entryTo d w h p b e) ≡ stepTo p spot-of b
     the-step =
-        step-same d w (ap natural (head 0 (lit< tt))) (ap natural (head 1 (lit< tt)))
+        step-same d w w (ap natural (head 0 (lit< tt))) (ap natural (head 1 (lit< tt)))
         (drop-at (take 2 e) levels 2 (length-take-le 2 e (omega arith)) ∙ sym (levels-new d w h row column p b (drop 2 e) (tests .0) in-range))
 
     pub arrives : 8 ≤ d → d ≤ 12 → w ≤ 256 → h ≤ 256 → length p ≡ w * h → Samples d b
@@ -68,6 +69,7 @@ module _ (d w h : ℕ) (p b e : List ℤ) (n : length e ≡ 18) where
             record {
               depths = and-true (le-leb 8 d d8) (le-leb d 12 d12);
               wide = and-true (le-leb 4 w (omega (arith, at .0))) (le-leb w 65536 (omega arith));
+              visible = and-true (le-leb 4 w (omega (arith, at .0))) (le-leb w w (le-refl w));
               fit =
                   and-true (le-leb row 65535 (omega (arith, at .1)))
                   (and-true (le-leb (column + 4) w (at .0)) (le-leb ((row + 3) * w + column + 4) (length p) reach));

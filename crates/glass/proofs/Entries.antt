@@ -34,9 +34,9 @@ use Rattle.glass.specs.Planes.{natural, standsOf}
 use Rattle.glass.proofs.Tails.{tail-lent}
 use Rattle.glass.specs.Steps.{gapsOf, levelsTo, entryTo, Near, Remembers}
 
-pub step-same : (d t : ℕ) {r r′ c c′ : ℕ} {l l′ : List ℤ} → r ≡ r′ → c ≡ c′ → l ≡ l′ → attempt d t r c l ≡ attempt d t r′ c′ l′
-step-same d t {r′ = r′} {c} {c′ = c′} {l} e f g =
-    ap (λ r. attempt d t r c l) e ∙ ap (λ c. attempt d t r′ c l) f ∙ ap (λ l. attempt d t r′ c′ l) g
+pub step-same : (d t w : ℕ) {r r′ c c′ : ℕ} {l l′ : List ℤ} → r ≡ r′ → c ≡ c′ → l ≡ l′ → attempt d t w r c l ≡ attempt d t w r′ c′ l′
+step-same d t w {r′ = r′} {c} {c′ = c′} {l} e f g =
+    ap (λ r. attempt d t w r c l) e ∙ ap (λ c. attempt d t w r′ c l) f ∙ ap (λ l. attempt d t w r′ c′ l) g
 
 pub gap : {p : List ℤ} {start width : ℕ} {b : List ℤ} → Near p start width b → (k : ℕ) → k < 16
     → Num (toZ w32 (ofZ w32 (numbers b k)) -ℤ toZ w32 (ofZ w32 (numbers p (cellAt start width 4 k)))) (numbers b k -ℤ numbers p (cellAt start width 4 k)) (4095 + 4095)
@@ -60,7 +60,7 @@ module _ (depth width height row column : ℕ) (p b l : List ℤ) where
   unfolding levelsTo
   levels-bad e h = rw (e, lt-leb 16 found h)
 
-  pub levels-new : standsOf width height row column 4 4 ≡ true → 16 ≤ found → fwht (difference p (place depth width row column) b) ≡ levelsTo depth width height row column p b l
+  pub levels-new : standsOf width height row column 4 4 ≡ true → 16 ≤ found → fwht (difference p (place depth width width row column) b) ≡ levelsTo depth width height row column p b l
   unfolding levelsTo
   levels-new e h = rw (e, le-leb 16 found h)
 

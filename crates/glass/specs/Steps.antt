@@ -35,7 +35,7 @@ ready depth width height row column p =
 unfoldable pub levelsTo : ℕ → ℕ → ℕ → ℕ → ℕ → List ℤ → List ℤ → List ℤ → List ℤ
 unfolding seek
 levelsTo depth width height row column p b l =
-    cond (ready depth width height row column p) (fwht (difference p (place depth width row column) b)) l
+    cond (ready depth width height row column p) (fwht (difference p (place depth width width row column) b)) l
 
 abbrev pub gapsOf : List ℤ → ℕ → ℕ → List ℤ → List ℤ
 gapsOf p start width b = tab 16 (λ k. numbers b k -ℤ numbers p (cellAt start width 4 k))

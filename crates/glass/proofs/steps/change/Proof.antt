@@ -70,7 +70,7 @@ returns c =
     let kept = heads-kept e ls (s .pre .3) (t .levels-to .kept .1 .1 .1 .1 .1 .1 .1 .0) in (
       f .ensures
           ∙ ap (stepOf (q .plane .now))
-          (step-same (q .depth) (q .width) (r ∙ kept 0 (lit< tt)) (k ∙ kept 1 (lit< tt)) (tail-lent 2 (putMid 2 (length e - 2) e ls))),
+          (step-same (q .depth) (q .width) (q .width) (r ∙ kept 0 (lit< tt)) (k ∙ kept 1 (lit< tt)) (tail-lent 2 (putMid 2 (length e - 2) e ls))),
       tail-back 2 e ls ∙ entry-new (q .depth) (q .width) (q .height) (q .plane .now) (q .wanted .now) e ls r k (tail-lent 2 e) (t .levels-to .ensures),
     )
 
