@@ -23,7 +23,6 @@ use Rattle.answers.proofs.Verdicts.{passed, search-passed}
 use Rattle.av1.specs.Steps.{item}
 use Rattle.av1.specs.Tables.{lengthOk}
 use Rattle.av1.specs.Calls.{low, high, numberOk, front}
-use Rattle.av1.specs.Wht.{whtFront}
 
 either : (m : ℕ) (n : ℕ) (b : Bool) → m ≤ 64 → (b ≡ true → n ≤ 64) → (eqb n m || b) ≡ true → n ≤ 64
 either m n b h f e = go (eqb n m) refl e
@@ -73,27 +72,4 @@ accepted n bits t e =
       long = long;
       fits = fits;
       small = λ k h. in-range-size (2 ^ 19) (low bits) (high bits) (item t k) (low-size bits most) (high-size bits most) (fits k (subst (λ (m : ℕ). k < m) long h));
-    }
-
--- ---- the same of the inverse WHT
-pub record Accepted16 (bits : ℕ) (t : List ℤ) : Type 0 where
-  pub least : 16 ≤ bits
-  pub most : bits ≤ 20
-  pub long : length t ≡ 16
-  pub small : Within (2 ^ 19) t
-
-pub accepted16 : (bits : ℕ) (t : List ℤ) → whtFront bits t .number ≡ 0 → Accepted16 bits t
-unfolding whtFront
-accepted16 bits t e =
-    let p₁ = passed (leb 16 bits && leb bits 20) 0 0 0 _ e in
-    let p₃ = passed (eqb (length t) 16) 5 1 0 _ (p₁ .1) in
-    let p₄ = search-passed 14 0 16 (λ k. k) (seek (numberOk (low bits) (high bits) t) 0 16) _ (p₃ .1) in
-    let b = both (leb 16 bits) (leb bits 20) (p₁ .0) in
-    let most = leb-true bits 20 (b .1) in
-    let long = eqb-true (length t) 16 (p₃ .0) in
-    record {
-      least = leb-true 16 bits (b .0);
-      most = most;
-      long = long;
-      small = λ k h. in-range-size (2 ^ 19) (low bits) (high bits) (item t k) (low-size bits most) (high-size bits most) (seek-passed (numberOk (low bits) (high bits) t) 16 (p₄ .0) k (subst (λ (m : ℕ). k < m) long h));
     }

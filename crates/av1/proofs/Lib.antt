@@ -2,12 +2,10 @@
 --     Wide       numbers of 32 bits multiplied in 64, and the rounding shift of their sums
 --     Going      a run of steps
 --     Tested     the tables, each by one computed test
---     WhtRun     the inverse WHT of four numbers, and the run of its eight lines
 --     Accepted   what no refusal before the first step tells
 --     Outcomes   a promise allows one outcome, and a refused call leaves its list
 pub mod Wide
 pub mod Going
 pub mod Tested
-pub mod WhtRun
 pub mod Accepted
 pub mod Outcomes

@@ -1,6 +1,6 @@
--- What the promises of both calls give, from document 01, "How much each call owes". Assumes nothing.
---     dct-leaves, wht-leaves      a refused call leaves its list as it was
---     dct-same, wht-same          two outcomes that a promise allows are the same
+-- What the promise of `av1_inv_dct` gives, from document 01, "How much each call owes". Assumes nothing.
+--     dct-leaves      a refused call leaves its list as it was
+--     dct-same        two outcomes that the promise allows are the same
 use mathlib.Core.Path.{_≡_, refl}
 use mathlib.Core.Bool.{Bool, true, false, cond}
 use mathlib.Core.List.{List}
@@ -13,9 +13,8 @@ use Rattle.answers.proofs.Verdicts.{left, one-outcome}
 use Rattle.av1.specs.Steps.{goes}
 use Rattle.av1.specs.Tables.{anglesOf, fromOf, opsOf, countOf}
 use Rattle.av1.specs.Calls.{low, high, permuted, settled, front, ranOf, dctOf}
-use Rattle.av1.specs.Wht.{linesOf, whtFront, whtOf}
 
--- a call that has its refusals from a front, and else what its work has settled
+-- a call that has its first refusals from a front, and else what its run has settled
 leaves : (a : Answer) (t : List ℤ) (w : Answer × List ℤ) → (cond (eqb (a .number) 0) (settled t w) (a, t) .0 .number ≡ 0 → ⊥) → cond (eqb (a .number) 0) (settled t w) (a, t) .1 ≡ t
 leaves a t w h = by-front (eqb (a .number) 0) h
   where
@@ -30,11 +29,3 @@ module _ (n bits : ℕ) (t : List ℤ) where
 
   pub dct-same : (x y : Answer × List ℤ) → x ≡ dctOf n bits t → y ≡ dctOf n bits t → x ≡ y
   dct-same x y p q = one-outcome p q
-
-module _ (bits : ℕ) (t : List ℤ) where
-  pub wht-leaves : (whtOf bits t .0 .number ≡ 0 → ⊥) → whtOf bits t .1 ≡ t
-  unfolding whtOf
-  wht-leaves h = leaves (whtFront bits t) t (linesOf (low bits) (high bits) 0 8 t) h
-
-  pub wht-same : (x y : Answer × List ℤ) → x ≡ whtOf bits t → y ≡ whtOf bits t → x ≡ y
-  wht-same x y p q = one-outcome p q

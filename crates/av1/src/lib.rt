@@ -1,11 +1,10 @@
-// The inverse DCT and the inverse 4x4 WHT of AV1, as calls on a lent slice.
+// The inverse DCT of AV1 (document 02, section 12), as a call on a lent slice.
 ghost use mathlib.Core.Path.{_≡_};
 ghost use Prim.Native.Nat.{_≤_};
 ghost use lib.ListN.{length};
 ghost use Rattle.whole.specs.Search.{seek};
 ghost use Rattle.av1.specs.Tables.{lengthOk};
 ghost use Rattle.av1.specs.Calls.{numberOk, front, dctOf};
-ghost use Rattle.av1.specs.Wht.{whtFront, whtOf};
 use answers::Answer;
 
 // Tables of the inverse DCT.
@@ -14,8 +13,6 @@ pub mod tables;
 pub mod steps;
 // The inverse DCT of each length.
 pub mod dct;
-// The inverse 4x4 WHT.
-pub mod wht;
 
 // Whether there is an inverse DCT of n numbers.
 fn has_length(n: usize) -> bool
@@ -31,7 +28,7 @@ fn has_length(n: usize) -> bool
 }
 
 // The index of the first number outside lo .. hi, or the length.
-fn first_bad(t: &[i32], lo: i32, hi: i32) -> usize
+pub fn first_bad(t: &[i32], lo: i32, hi: i32) -> usize
     requires { ⌜ length (now t) ≤ 64 ⌝ }
     ensures { λ r. ⌜ r ≡ seek (numberOk lo hi (now (t .entry))) 0 (length (now (t .entry))) ⌝ }
 {
@@ -72,38 +69,4 @@ pub fn av1_inv_dct(n: usize, bits: u32, t: &mut [i32]) -> Answer
     let lo = ranges::low_end(bits - 1);
     let hi = ranges::high_end(bits - 1);
     dct::by_length(n, t, lo, hi)
-}
-
-// The refusals of the inverse WHT that need no line.
-fn judge16(bits: u32, t: &[i32]) -> Answer
-    ensures { λ r. ⌜ r ≡ whtFront bits (now (t .entry)) ⌝ }
-{
-    if bits < 16 {
-        return answers::refusal(1, 0, 0);
-    }
-    if 20 < bits {
-        return answers::refusal(1, 0, 0);
-    }
-    if t.len() != 16 {
-        return answers::refusal(6, 1, 0);
-    }
-    let found = first_bad(t, ranges::low_end(bits - 1), ranges::high_end(bits - 1));
-    if found < 16 {
-        return answers::refusal(15, 0, found);
-    }
-    answers::finished()
-}
-
-// The inverse WHT of four rows of four numbers, in their places; or a refusal, and nothing written.
-pub fn av1_inv_wht4x4(bits: u32, t: &mut [i32]) -> Answer
-    ensures { λ r. ⌜ (r, now (t .exit)) ≡ whtOf bits (now (t .entry)) ⌝ }
-{
-    let a = judge16(bits, t);
-    if a.number != 0 {
-        return a;
-    }
-    let lo = ranges::low_end(bits - 1);
-    let hi = ranges::high_end(bits - 1);
-    let mut w = [0i32; 16];
-    wht::work16(t, &mut w[..], lo, hi)
 }
