@@ -43,7 +43,7 @@ read t shift i = floorDiv (getD t i (pos 0)) (2 ^ shift)
 unfoldable pub result : List ℤ → Line → List ℤ
 result t (line at by shift) = assigned (read t shift at) (read t shift (at + by)) (read t shift (at + by + by)) (read t shift (at + by + by + by))
 
-abbrev stored : List ℤ → ℕ → ℕ → List ℤ → List ℤ
+abbrev pub stored : List ℤ → ℕ → ℕ → List ℤ → List ℤ
 stored t at by [] = t
 stored t at by (v ∷ vs) = stored (set t at v) (at + by) by vs
 
