@@ -5,6 +5,7 @@
 --     Chroma     pair by pair, and how far a pair drifts that is turned back
 --     Wht        each transform undoes the other
 --     History    stepping back, and the wanted block
+--     Av1        the older edition: two definitions agree
 --     Worked     P1 to P12
 -- The useless versions of document 01, "How much each call owes", and the edits that are refused for being one:
 --     a call that refuses everything                     crates/pixels/must-fail/refuses_everything.edit
@@ -17,4 +18,5 @@ pub mod Pixels
 pub mod Chroma
 pub mod Wht
 pub mod History
+pub mod Av1
 pub mod Worked
