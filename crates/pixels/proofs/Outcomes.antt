@@ -11,20 +11,20 @@ use lib.IntN.{ℤ}
 use lib.ListN.{length}
 use Rattle.answers.specs.declared.Answer.{Answer}
 use Rattle.answers.proofs.Verdicts.{left, one-outcome}
-use Rattle.pixels.specs.Calls.{addVerdict, added, addOf, floatVerdict, filled, floatOf}
+use Rattle.pixels.specs.Calls.{Reading, addVerdict, added, addOf, floatVerdict, filled, floatOf}
 
 -- ---- the add call
-module _ (dst : List ℤ) (stride : ℕ) (cs : List ℤ) (txtp tx depth : ℕ) where
+module _ (how : Reading) (dst : List ℤ) (stride : ℕ) (cs : List ℤ) (txtp tx depth : ℕ) where
   -- what the promise says of an outcome: the answer, and the plane afterwards
   abbrev pub Adds : Answer × List ℤ → Type 0
-  Adds x = x ≡ addOf dst stride cs txtp tx depth
+  Adds x = x ≡ addOf how dst stride cs txtp tx depth
 
   pub add-outcome : (x y : Answer × List ℤ) → Adds x → Adds y → x ≡ y
   add-outcome x y p q = one-outcome p q
 
-  pub add-left : (addOf dst stride cs txtp tx depth .0 .number ≡ 0 → ⊥) → addOf dst stride cs txtp tx depth .1 ≡ dst
+  pub add-left : (addOf how dst stride cs txtp tx depth .0 .number ≡ 0 → ⊥) → addOf how dst stride cs txtp tx depth .1 ≡ dst
   unfolding addOf
-  add-left h = left {A = List ℤ} (addVerdict dst stride cs txtp tx depth) dst (added dst stride cs txtp tx depth) h
+  add-left h = left {A = List ℤ} (addVerdict (how .refuses) dst stride cs txtp tx depth) dst (added dst stride cs txtp tx depth) h
 
   pub add-lanes : (one four : Answer) (plane plane′ : List ℤ) → Adds (one, plane) → Adds (four, plane′) → (one ≡ four) × (plane ≡ plane′)
   add-lanes one four plane plane′ p q =
@@ -32,16 +32,16 @@ module _ (dst : List ℤ) (stride : ℕ) (cs : List ℤ) (txtp tx depth : ℕ) w
       (ap (λ (x : Answer × List ℤ). x .0) e, ap (λ (x : Answer × List ℤ). x .1) e)
 
 -- ---- the float call
-module _ (out : List Float) (cs : List ℤ) (txtp tx depth : ℕ) (pred : List ℤ) where
+module _ (how : Reading) (out : List Float) (cs : List ℤ) (txtp tx depth : ℕ) (pred : List ℤ) where
   abbrev pub Fills : Answer × List Float → Type 0
-  Fills x = x ≡ floatOf out cs txtp tx depth pred
+  Fills x = x ≡ floatOf how out cs txtp tx depth pred
 
   pub float-outcome : (x y : Answer × List Float) → Fills x → Fills y → x ≡ y
   float-outcome x y p q = one-outcome p q
 
-  pub float-left : (floatOf out cs txtp tx depth pred .0 .number ≡ 0 → ⊥) → floatOf out cs txtp tx depth pred .1 ≡ out
+  pub float-left : (floatOf how out cs txtp tx depth pred .0 .number ≡ 0 → ⊥) → floatOf how out cs txtp tx depth pred .1 ≡ out
   unfolding floatOf
-  float-left h = left {A = List Float} (floatVerdict (length out) cs txtp tx depth pred) out (filled out cs txtp tx depth pred) h
+  float-left h = left {A = List Float} (floatVerdict (how .refuses) (length out) cs txtp tx depth pred) out (filled out cs txtp tx depth pred) h
 
   pub float-lanes : (one four : Answer) (output output′ : List Float) → Fills (one, output) → Fills (four, output′) → (one ≡ four) × (output ≡ output′)
   float-lanes one four output output′ p q =

@@ -1,9 +1,10 @@
--- The two pixel calls, from document 01, "Refusal numbers" and "From coefficients to pixels", and document 02, section 6. Definitions only.
+-- The two pixel calls, from document 01, "Refusal numbers" and "From coefficients to pixels", and document 02, sections 5 and 6. Definitions only.
 -- Slice 1 is the coefficients, slice 2 the prediction or plane, slice 3 the output.
+--     Reading        how a call takes its coefficients: `strict` refuses those out of range, `clamped` clamps them as document 01 says
 --     kinds          refusals 1 to 4: depth, size number, type number, a kind that its length doesn't have
---     numbers        refusals 7 and 8: a coefficient out of range, a prediction or present sample out of range
---     onPlane, addVerdict, addOf           the add call: refusals 5 to 8, its answer, the whole call
---     onBuffers, floatVerdict, floatOf     the float call: refusals 6 to 8, its answer, the whole call; Exact: the numbers of its block are the pixels, exactly
+--     coefficients, samples, numbers       refusal 7: a coefficient out of range; refusal 8: a prediction or present sample out of range; both
+--     onPlane, addVerdict, addOf           the add call: refusals 5 and 6, its answer, the whole call
+--     onBuffers, floatVerdict, floatOf     the float call: refusal 6, its answer, the whole call; Exact: the numbers of its block are the pixels, exactly
 use mathlib.Core.Bool.{Bool, true, false, _&&_, cond}
 use mathlib.Core.List.{List}
 use Prim.Native.Nat.{ℕ, _+_, _*_, _-_, _/_, _%_, _≤_, _<_}
@@ -13,7 +14,7 @@ use lib.Ieee.{Float}
 use lib.Ieee.Exact.{HasValue}
 use lib.IntN.{ℤ, pos, natAbs}
 use lib.ListN.{length, getD}
-use Rattle.whole.specs.Numbers.{highest}
+use Rattle.whole.specs.Numbers.{inRange, lowest, highest}
 use Rattle.whole.specs.Sums.{tab}
 use Rattle.whole.specs.Search.{seek, cellAt}
 use Rattle.whole.specs.Grid.{inBlock}
@@ -24,7 +25,21 @@ use Rattle.tables.specs.declared.size.Size.{Size}
 use Rattle.tables.specs.Sizes.{sizeAt, cut, scaled}
 use Rattle.tables.specs.Kinds.{horOf, verOf, hasKind}
 use Rattle.passes.specs.Passes.{scalable, passesOf}
+use Rattle.pixels.specs.declared.form.Form.{Form}
 use Rattle.pixels.specs.Pixels.{residualAt, pixelOf, pixelF}
+
+-- refuses: a coefficient outside -2^(depth+7) .. 2^(depth+7) - 1 is refused; where not, it is clamped
+pub record Reading : Type 0 where
+  pub refuses : Bool
+
+abbrev pub strict : Reading
+strict = record { refuses = true }
+
+abbrev pub clamped : Reading
+clamped = record { refuses = false }
+
+abbrev pub readingOf : Form → Reading
+readingOf form = record { refuses = form .strict }
 
 -- the sides of a size number
 abbrev pub wOf : ℕ → ℕ
@@ -50,28 +65,39 @@ kinds tx txtp depth rest =
     (unless (hasKind (hOf tx) (verOf txtp)) (refused 4 0 1)
     rest))))
 
--- a coefficient that is scaled lies in -11,864,550 .. 11,864,549; any other passes
-abbrev pub coeffOk : Bool → List ℤ → ℕ → Bool
-coeffOk scale cs k = cond scale (scalable (getD cs k (pos 0))) true
+-- coefficient k as it was handed over, before any scaling: in -2^(depth+7) .. 2^(depth+7) - 1; where the call clamps, in -11,864,550 .. 11,864,549 if it is scaled, and any if not
+abbrev pub coeffOk : Bool → Bool → ℕ → List ℤ → ℕ → Bool
+coeffOk refuses scale depth cs k =
+    cond refuses (inRange (lowest (depth + 7)) (highest (depth + 7)) (getD cs k (pos 0))) (cond scale (scalable (getD cs k (pos 0))) true)
 
--- of a block of w by h at the front of the prediction or plane p, its rows stride apart
-abbrev pub numbers : ℕ → ℕ → ℕ → List ℤ → List ℤ → ℕ → Answer
-numbers w h depth cs p stride =
-    searched 7 1 (cut w * cut h) (λ k. k) (seek (coeffOk (scaled w h) cs) 0 (cut w * cut h))
-    (searched 8 2 (h * w) (cellAt 0 stride w) (seek (cellOk (pos 0) (highest depth) p 0 stride w) 0 (h * w))
-    done)
+-- of a block of w by h, and of its predictions or samples at the front of p, their rows stride apart
+abbrev pub coefficients : Bool → ℕ → ℕ → ℕ → List ℤ → Answer → Answer
+coefficients refuses w h depth cs rest =
+    searched 7 1 (cut w * cut h) (λ k. k) (seek (coeffOk refuses (scaled w h) depth cs) 0 (cut w * cut h)) rest
 
--- ---- the add call: the plane, its stride, the coefficients
-abbrev pub onPlane : ℕ → ℕ → ℕ → List ℤ → ℕ → List ℤ → Answer
-onPlane w h depth dst stride cs =
+abbrev pub samples : ℕ → ℕ → ℕ → List ℤ → ℕ → Answer
+samples w h depth p stride =
+    searched 8 2 (h * w) (cellAt 0 stride w) (seek (cellOk (pos 0) (highest depth) p 0 stride w) 0 (h * w)) done
+
+abbrev pub numbers : Bool → ℕ → ℕ → ℕ → List ℤ → List ℤ → ℕ → Answer
+numbers refuses w h depth cs p stride = coefficients refuses w h depth cs (samples w h depth p stride)
+
+-- ---- the add call: a plane of room samples, its stride, count coefficients
+abbrev pub onPlane : ℕ → ℕ → ℕ → ℕ → ℕ → Answer → Answer
+onPlane w h room stride count rest =
     unless (leb w stride && leb stride 65536) (refused 5 0 0)
-    (unless (leb (cut w * cut h) (length cs)) (refused 6 1 0)
-    (unless (leb ((h - 1) * stride + w) (length dst)) (refused 6 2 0)
-    (numbers w h depth cs dst stride)))
+    (unless (leb (cut w * cut h) count) (refused 6 1 0)
+    (unless (leb ((h - 1) * stride + w) room) (refused 6 2 0)
+    rest))
 
-unfoldable pub addVerdict : List ℤ → ℕ → List ℤ → ℕ → ℕ → ℕ → Answer
+-- refusals 1 to 6, then the rest
+abbrev pub addFront : ℕ → ℕ → ℕ → ℕ → ℕ → ℕ → Answer → Answer
+addFront room stride count txtp tx depth rest = kinds tx txtp depth (onPlane (wOf tx) (hOf tx) room stride count rest)
+
+unfoldable pub addVerdict : Bool → List ℤ → ℕ → List ℤ → ℕ → ℕ → ℕ → Answer
 unfolding seek
-addVerdict dst stride cs txtp tx depth = kinds tx txtp depth (onPlane (wOf tx) (hOf tx) depth dst stride cs)
+addVerdict refuses dst stride cs txtp tx depth =
+    addFront (length dst) stride (length cs) txtp tx depth (numbers refuses (wOf tx) (hOf tx) depth cs dst stride)
 
 -- sample i of the plane: inside the block of w by h a pixel with its residual R, elsewhere what it was
 abbrev pub addedBy : ℕ → ℕ → ℕ → (ℕ → ℕ → ℤ) → List ℤ → ℕ → List ℤ
@@ -81,21 +107,25 @@ addedBy w h depth R dst stride =
 abbrev pub added : List ℤ → ℕ → List ℤ → ℕ → ℕ → ℕ → List ℤ
 added dst stride cs txtp tx depth = addedBy (wOf tx) (hOf tx) depth (residualAt tx txtp depth cs) dst stride
 
-unfoldable pub addOf : List ℤ → ℕ → List ℤ → ℕ → ℕ → ℕ → Answer × List ℤ
+unfoldable pub addOf : Reading → List ℤ → ℕ → List ℤ → ℕ → ℕ → ℕ → Answer × List ℤ
 unfolding addVerdict passesOf
-addOf dst stride cs txtp tx depth = ends (addVerdict dst stride cs txtp tx depth) dst (added dst stride cs txtp tx depth)
+addOf how dst stride cs txtp tx depth = ends (addVerdict (how .refuses) dst stride cs txtp tx depth) dst (added dst stride cs txtp tx depth)
 
--- ---- the float call: the output of room numbers, the coefficients, the prediction, each row w apart
-abbrev pub onBuffers : ℕ → ℕ → ℕ → ℕ → List ℤ → List ℤ → Answer
-onBuffers w h depth room cs pred =
-    unless (leb (cut w * cut h) (length cs)) (refused 6 1 0)
-    (unless (leb (h * w) (length pred)) (refused 6 2 0)
+-- ---- the float call: an output of room numbers, count coefficients, known predictions, each row w apart
+abbrev pub onBuffers : ℕ → ℕ → ℕ → ℕ → ℕ → Answer → Answer
+onBuffers w h room count known rest =
+    unless (leb (cut w * cut h) count) (refused 6 1 0)
+    (unless (leb (h * w) known) (refused 6 2 0)
     (unless (leb (h * w) room) (refused 6 3 0)
-    (numbers w h depth cs pred w)))
+    rest))
 
-unfoldable pub floatVerdict : ℕ → List ℤ → ℕ → ℕ → ℕ → List ℤ → Answer
+abbrev pub floatFront : ℕ → ℕ → ℕ → ℕ → ℕ → ℕ → Answer → Answer
+floatFront room count txtp tx depth known rest = kinds tx txtp depth (onBuffers (wOf tx) (hOf tx) room count known rest)
+
+unfoldable pub floatVerdict : Bool → ℕ → List ℤ → ℕ → ℕ → ℕ → List ℤ → Answer
 unfolding seek
-floatVerdict room cs txtp tx depth pred = kinds tx txtp depth (onBuffers (wOf tx) (hOf tx) depth room cs pred)
+floatVerdict refuses room cs txtp tx depth pred =
+    floatFront room (length cs) txtp tx depth (length pred) (numbers refuses (wOf tx) (hOf tx) depth cs pred (wOf tx))
 
 -- number i of the output: in the first w * h a pixel with its residual R, as an f32; beyond them what it was
 abbrev pub filledBy : ℕ → ℕ → ℕ → (ℕ → ℕ → ℤ) → List Float → List ℤ → List Float
@@ -105,9 +135,9 @@ filledBy w h depth R out pred =
 abbrev pub filled : List Float → List ℤ → ℕ → ℕ → ℕ → List ℤ → List Float
 filled out cs txtp tx depth pred = filledBy (wOf tx) (hOf tx) depth (residualAt tx txtp depth cs) out pred
 
-unfoldable pub floatOf : List Float → List ℤ → ℕ → ℕ → ℕ → List ℤ → Answer × List Float
+unfoldable pub floatOf : Reading → List Float → List ℤ → ℕ → ℕ → ℕ → List ℤ → Answer × List Float
 unfolding floatVerdict passesOf pixelF
-floatOf out cs txtp tx depth pred = ends (floatVerdict (length out) cs txtp tx depth pred) out (filled out cs txtp tx depth pred)
+floatOf how out cs txtp tx depth pred = ends (floatVerdict (how .refuses) (length out) cs txtp tx depth pred) out (filled out cs txtp tx depth pred)
 
 -- number i of the block is finite, not negative, and in size the pixel over 1
 abbrev pub Exact : List Float → List ℤ → ℕ → ℕ → ℕ → List ℤ → Type 0

@@ -32,7 +32,7 @@ Asked w h stride depth dst work =
 accepted : (c : tie.Else1) → let s = c .before .before .before .before in Kinds (s .args .tx) (s .args .txtp) (s .args .bd) × Plane (wOf (s .args .tx)) (hOf (s .args .tx)) (s .args .bd) (s .args .dst .now) (s .args .stride) (s .args .coeff .now)
 accepted c =
     let s = c .before .before .before .before in
-    add-passed (s .args .dst .now) (s .args .stride) (s .args .coeff .now) (s .args .txtp) (s .args .tx) (s .args .bd) (ap (λ (a : Answer). a .number) (sym (c .before .before .judge-add .ensures)) ∙ c .if1 .left)
+    add-passed (s .args .form .strict) (s .args .dst .now) (s .args .stride) (s .args .coeff .now) (s .args .txtp) (s .args .tx) (s .args .bd) (ap (λ (a : Answer). a .number) (sym (c .before .before .judge-add .ensures)) ∙ c .if1 .left)
 
 judge-add-requires : tie.Need-judge-add-requires
 judge-add-requires c κs = search needs
@@ -45,7 +45,7 @@ unfolding addOf
 returns c =
     let j = c .before .before in
     let s = j .before .before in
-    let a = addVerdict (s .args .dst .now) (s .args .stride) (s .args .coeff .now) (s .args .txtp) (s .args .tx) (s .args .bd) in
+    let a = addVerdict (s .args .form .strict) (s .args .dst .now) (s .args .stride) (s .args .coeff .now) (s .args .txtp) (s .args .tx) (s .args .bd) in
     ap (λ (z : Answer). (z, s .args .dst .now)) (j .judge-add .ensures)
     ∙ sym (kept a (s .args .dst .now) (added (s .args .dst .now) (s .args .stride) (s .args .coeff .now) (s .args .txtp) (s .args .tx) (s .args .bd)) (λ e. c .if1 .taken (ap (λ (z : Answer). z .number) (j .judge-add .ensures) ∙ e)))
 
@@ -53,7 +53,7 @@ slice-aggregate-residuals : tie.Need-slice-aggregate-residuals
 slice-aggregate-residuals c = search needs
 
 residuals-requires : tie.Need-residuals-requires
-residuals-requires c κs = let p = accepted (c .before) in (p .0 .size, ready (p .0) (p .1 .long) (p .1 .all .coefficients), N.le-refl 1024)
+residuals-requires c κs = let p = accepted (c .before) in (p .0 .size, ready (p .0) (p .1 .fits .long) (p .1 .all .coefficients), N.le-refl 1024)
 
 size-of-requires : tie.Need-size-of-requires
 size-of-requires c κs = accepted (c .before .before .before) .0 .size
@@ -70,7 +70,7 @@ add-block-requires c κs =
     let p = accepted e in
     let l = sides (s .args .tx) (p .0 .size) in
     subst (λ (q : Size). Asked (q .w) (q .h) (s .args .stride) (s .args .bd) (s .args .dst .now) (r .residuals .last .0)) (sym (z .size-of .ensures)) (
-      (l, p .0 .to, p .1 .wide, last-row (hOf (s .args .tx)) (s .args .stride) (wOf (s .args .tx)) (length (s .args .dst .now)) (p .1 .reach), p .1 .all .samples),
+      (l, p .0 .to, p .1 .fits .wide, last-row (hOf (s .args .tx)) (s .args .stride) (wOf (s .args .tx)) (length (s .args .dst .now)) (p .1 .fits .reach), p .1 .all .samples),
       (N.le-trans (area (hOf (s .args .tx)) (wOf (s .args .tx)) refl refl) (omega (arith, r .residuals .kept .0)), residual-bounded (s .args .tx) (s .args .txtp) (s .args .bd) (s .args .coeff .now) (r .residuals .last .0) (r .residuals .ensures) (p .0 .to)),
     )
 
@@ -87,7 +87,7 @@ returns-2 c =
     let j = e .before .before in
     let s = j .before .before in
     let p = accepted e in
-    let a = addVerdict (s .args .dst .now) (s .args .stride) (s .args .coeff .now) (s .args .txtp) (s .args .tx) (s .args .bd) in
+    let a = addVerdict (s .args .form .strict) (s .args .dst .now) (s .args .stride) (s .args .coeff .now) (s .args .txtp) (s .args .tx) (s .args .bd) in
     let w = wOf (s .args .tx) in
     let h = hOf (s .args .tx) in
     let made = added (s .args .dst .now) (s .args .stride) (s .args .coeff .now) (s .args .txtp) (s .args .tx) (s .args .bd) in

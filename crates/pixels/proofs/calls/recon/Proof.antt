@@ -18,7 +18,7 @@ use Rattle.tables.specs.Sizes.{sizeAt, cut}
 use Rattle.passes.specs.Passes.{swOf, shOf}
 use Rattle.passes.proofs.Steps.{area}
 use Rattle.pixels.specs.Pixels.{repeated, residualAt, pixelOf, pixelF}
-use Rattle.pixels.specs.Calls.{wOf, hOf, Sides, floatVerdict, filledBy, filled, floatOf}
+use Rattle.pixels.specs.Calls.{wOf, hOf, Sides, floatVerdict, filledBy, filled, floatOf, readingOf}
 use Rattle.pixels.proofs.Judging.{Kinds, Buffers, float-passed, ready, sides}
 use Rattle.pixels.proofs.Floats.{exact-call}
 use Rattle.pixels.proofs.Served.{residual-bounded, residual-served, block-same}
@@ -35,7 +35,7 @@ Asked w h room depth pred work =
 accepted : (c : tie.Else1) → let s = c .before .before .before .before in Kinds (s .args .tx) (s .args .txtp) (s .args .bd) × Buffers (wOf (s .args .tx)) (hOf (s .args .tx)) (s .args .bd) (length (s .args .out .now)) (s .args .coeff .now) (s .args .pred .now)
 accepted c =
     let s = c .before .before .before .before in
-    float-passed (length (s .args .out .now)) (s .args .coeff .now) (s .args .txtp) (s .args .tx) (s .args .bd) (s .args .pred .now) (ap (λ (a : Answer). a .number) (sym (c .before .before .judge-float .ensures)) ∙ c .if1 .left)
+    float-passed (s .args .form .strict) (length (s .args .out .now)) (s .args .coeff .now) (s .args .txtp) (s .args .tx) (s .args .bd) (s .args .pred .now) (ap (λ (a : Answer). a .number) (sym (c .before .before .judge-float .ensures)) ∙ c .if1 .left)
 
 judge-float-requires : tie.Need-judge-float-requires
 judge-float-requires c κs = search needs
@@ -45,16 +45,16 @@ unfolding floatOf
 returns c =
     let j = c .before .before in
     let s = j .before .before in
-    let a = floatVerdict (length (s .args .out .now)) (s .args .coeff .now) (s .args .txtp) (s .args .tx) (s .args .bd) (s .args .pred .now) in
+    let a = floatVerdict (s .args .form .strict) (length (s .args .out .now)) (s .args .coeff .now) (s .args .txtp) (s .args .tx) (s .args .bd) (s .args .pred .now) in
     let e = ap (λ (z : Answer). (z, s .args .out .now)) (j .judge-float .ensures)
     ∙ sym (kept a (s .args .out .now) (filled (s .args .out .now) (s .args .coeff .now) (s .args .txtp) (s .args .tx) (s .args .bd) (s .args .pred .now)) (λ e. c .if1 .taken (ap (λ (z : Answer). z .number) (j .judge-float .ensures) ∙ e))) in
-    (e, exact-call (s .args .out .now) (s .args .coeff .now) (s .args .txtp) (s .args .tx) (s .args .bd) (s .args .pred .now) (j .judge-float .result) (s .args .out .now) e)
+    (e, exact-call (readingOf (s .args .form)) (s .args .out .now) (s .args .coeff .now) (s .args .txtp) (s .args .tx) (s .args .bd) (s .args .pred .now) (j .judge-float .result) (s .args .out .now) e)
 
 slice-aggregate-residuals : tie.Need-slice-aggregate-residuals
 slice-aggregate-residuals c = search needs
 
 residuals-requires : tie.Need-residuals-requires
-residuals-requires c κs = let p = accepted (c .before) in (p .0 .size, ready (p .0) (p .1 .long) (p .1 .all .coefficients), N.le-refl 1024)
+residuals-requires c κs = let p = accepted (c .before) in (p .0 .size, ready (p .0) (p .1 .fits .long) (p .1 .all .coefficients), N.le-refl 1024)
 
 size-of-requires : tie.Need-size-of-requires
 size-of-requires c κs = accepted (c .before .before .before) .0 .size
@@ -71,7 +71,7 @@ fill-block-requires c κs =
     let p = accepted e in
     let l = sides (s .args .tx) (p .0 .size) in
     subst (λ (q : Size). Asked (q .w) (q .h) (length (s .args .out .now)) (s .args .bd) (s .args .pred .now) (r .residuals .last .0)) (sym (z .size-of .ensures)) (
-      (l, p .0 .to, p .1 .space, p .1 .known, p .1 .all .samples),
+      (l, p .0 .to, p .1 .fits .space, p .1 .fits .known, p .1 .all .samples),
       (N.le-trans (area (hOf (s .args .tx)) (wOf (s .args .tx)) refl refl) (omega (arith, r .residuals .kept .0)), residual-bounded (s .args .tx) (s .args .txtp) (s .args .bd) (s .args .coeff .now) (r .residuals .last .0) (r .residuals .ensures) (p .0 .to)),
     )
 
@@ -88,7 +88,7 @@ returns-2 c =
     let j = e .before .before in
     let s = j .before .before in
     let p = accepted e in
-    let a = floatVerdict (length (s .args .out .now)) (s .args .coeff .now) (s .args .txtp) (s .args .tx) (s .args .bd) (s .args .pred .now) in
+    let a = floatVerdict (s .args .form .strict) (length (s .args .out .now)) (s .args .coeff .now) (s .args .txtp) (s .args .tx) (s .args .bd) (s .args .pred .now) in
     let w = wOf (s .args .tx) in
     let h = hOf (s .args .tx) in
     let made = filled (s .args .out .now) (s .args .coeff .now) (s .args .txtp) (s .args .tx) (s .args .bd) (s .args .pred .now) in
@@ -100,7 +100,7 @@ returns-2 c =
     (residual-served (s .args .tx) (s .args .txtp) (s .args .bd) (s .args .coeff .now) (r .residuals .last .0) (r .residuals .ensures) (sides (s .args .tx) (p .0 .size))))
     ∙ ap (λ (q : Answer). (q, made)) (j .judge-float .ensures)
     ∙ sym (taken a (s .args .out .now) made (ap (λ (q : Answer). q .number) (sym (j .judge-float .ensures)) ∙ e .if1 .left)) in
-    (whole, exact-call (s .args .out .now) (s .args .coeff .now) (s .args .txtp) (s .args .tx) (s .args .bd) (s .args .pred .now) (j .judge-float .result) (b .fill-block .last .0) whole)
+    (whole, exact-call (readingOf (s .args .form)) (s .args .out .now) (s .args .coeff .now) (s .args .txtp) (s .args .tx) (s .args .bd) (s .args .pred .now) (j .judge-float .result) (b .fill-block .last .0) whole)
 
 pub recon-spec : {M : Type 1} → statement M
 recon-spec =

@@ -5,7 +5,7 @@ use lib.ListN.{length}
 use Rattle.answers.specs.declared.Answer.{Answer}
 use Rattle.answers.specs.Answers.{done}
 use Rattle.tables.specs.declared.size.Size.{Size}
-use Rattle.pixels.specs.Calls.{Sides, kinds, onPlane, addVerdict}
+use Rattle.pixels.specs.Calls.{Sides, kinds, numbers, onPlane, addVerdict}
 use Rattle.pixels.proofs.Judging.{Kinds, kinds-passed, kinds-opens, kinds-stays, sides}
 use Rattle.pixels.proofs.judge.judge_add.Statement.{statement}
 use Rattle.pixels.proofs.judge.judge_add.Tie as tie
@@ -39,7 +39,7 @@ returns-2 c =
     let z = c .before in
     let e = z .before in
     let s = e .before .before .before in
-    c .judge-plane .ensures ∙ ap (λ (q : Size). onPlane (q .w) (q .h) (s .args .bd) (s .args .dst .now) (s .args .stride) (s .args .coeff .now)) (z .size-of .ensures)
+    c .judge-plane .ensures ∙ ap (λ (q : Size). onPlane (q .w) (q .h) (length (s .args .dst .now)) (s .args .stride) (length (s .args .coeff .now)) (numbers (s .args .strict) (q .w) (q .h) (s .args .bd) (s .args .coeff .now) (s .args .dst .now) (s .args .stride))) (z .size-of .ensures)
     ∙ sym (kinds-opens (s .args .tx) (s .args .txtp) (s .args .bd) _ (passed e))
 
 pub judge-add-spec : {M : Type 1} → statement M

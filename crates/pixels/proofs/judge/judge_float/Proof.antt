@@ -5,7 +5,7 @@ use lib.ListN.{length}
 use Rattle.answers.specs.declared.Answer.{Answer}
 use Rattle.answers.specs.Answers.{done}
 use Rattle.tables.specs.declared.size.Size.{Size}
-use Rattle.pixels.specs.Calls.{Sides, kinds, onBuffers, floatVerdict}
+use Rattle.pixels.specs.Calls.{Sides, kinds, numbers, onBuffers, floatVerdict}
 use Rattle.pixels.proofs.Judging.{Kinds, kinds-passed, kinds-opens, kinds-stays, sides}
 use Rattle.pixels.proofs.judge.judge_float.Statement.{statement}
 use Rattle.pixels.proofs.judge.judge_float.Tie as tie
@@ -39,7 +39,7 @@ returns-2 c =
     let z = c .before in
     let e = z .before in
     let s = e .before .before .before in
-    c .judge-buffers .ensures ∙ ap (λ (q : Size). onBuffers (q .w) (q .h) (s .args .bd) (s .args .room) (s .args .coeff .now) (s .args .pred .now)) (z .size-of .ensures)
+    c .judge-buffers .ensures ∙ ap (λ (q : Size). onBuffers (q .w) (q .h) (s .args .room) (length (s .args .coeff .now)) (length (s .args .pred .now)) (numbers (s .args .strict) (q .w) (q .h) (s .args .bd) (s .args .coeff .now) (s .args .pred .now) (q .w))) (z .size-of .ensures)
     ∙ sym (kinds-opens (s .args .tx) (s .args .txtp) (s .args .bd) _ (passed e))
 
 pub judge-float-spec : {M : Type 1} → statement M

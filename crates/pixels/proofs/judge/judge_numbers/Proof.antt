@@ -14,6 +14,7 @@ use Rattle.answers.specs.Answers.{done, refused}
 use Rattle.answers.proofs.Verdicts.{search-opens, search-stops}
 use Rattle.ranges.specs.Cells.{cellOk}
 use Rattle.tables.specs.Sizes.{cut, scaled}
+use Rattle.tables.proofs.Kernels.{cut-most}
 use Rattle.passes.proofs.Steps.{area}
 use Rattle.pixels.specs.Calls.{coeffOk, numbers}
 use Rattle.pixels.proofs.judge.judge_numbers.Statement.{statement}
@@ -31,11 +32,11 @@ block : (s : tie.Start) → s .args .h * s .args .w ≤ 4096
 block s = N.mul-le-mul (s .pre .1 .low) (s .pre .1 .narrow)
 
 -- what the two searches found
-bad-coefficient : (c : tie.After-first-coefficient) → let s = c .before .before .before .before in c .first-coefficient .result ≡ seek (coeffOk (scaled (s .args .w) (s .args .h)) (s .args .coeff .now)) 0 (cut (s .args .w) * cut (s .args .h))
+bad-coefficient : (c : tie.After-first-coefficient) → let s = c .before .before .before .before in c .first-coefficient .result ≡ seek (coeffOk (s .args .strict) (scaled (s .args .w) (s .args .h)) (s .args .bd) (s .args .coeff .now)) 0 (cut (s .args .w) * cut (s .args .h))
 bad-coefficient c =
     let i = c .before in
     let s = i .before .before .before in
-    c .first-coefficient .ensures ∙ ap (λ n. seek (coeffOk (i .is-scaled .result) (s .args .coeff .now)) 0 n) (count (i .before)) ∙ ap (λ b. seek (coeffOk b (s .args .coeff .now)) 0 (cut (s .args .w) * cut (s .args .h))) (i .is-scaled .ensures)
+    c .first-coefficient .ensures ∙ ap (λ n. seek (coeffOk (s .args .strict) (i .is-scaled .result) (s .args .bd) (s .args .coeff .now)) 0 n) (count (i .before)) ∙ ap (λ b. seek (coeffOk (s .args .strict) b (s .args .bd) (s .args .coeff .now)) 0 (cut (s .args .w) * cut (s .args .h))) (i .is-scaled .ensures)
 
 bad-sample : (c : tie.After-first-sample) → let s = c .before .before .before .before .before .before .before in c .first-sample .result ≡ seek (cellOk (pos 0) (highest (s .args .bd)) (s .args .p .now) 0 (s .args .stride) (s .args .w)) 0 (s .args .h * s .args .w)
 bad-sample c =
@@ -44,7 +45,7 @@ bad-sample c =
     c .first-sample .ensures ∙ ap (λ z. seek (cellOk (pos 0) z (s .args .p .now) 0 (s .args .stride) (s .args .w)) 0 (s .args .h * s .args .w)) (back (h .high-end .ok) ∙ h .high-end .ensures)
 
 -- the search for a coefficient found none
-none : (c : tie.Else1) → let s = c .before .before .before .before .before in cut (s .args .w) * cut (s .args .h) ≤ seek (coeffOk (scaled (s .args .w) (s .args .h)) (s .args .coeff .now)) 0 (cut (s .args .w) * cut (s .args .h))
+none : (c : tie.Else1) → let s = c .before .before .before .before .before in cut (s .args .w) * cut (s .args .h) ≤ seek (coeffOk (s .args .strict) (scaled (s .args .w) (s .args .h)) (s .args .bd) (s .args .coeff .now)) 0 (cut (s .args .w) * cut (s .args .h))
 none c = omega (arith, bad-coefficient (c .before), count (c .before .before .before), c .if1 .left)
 
 -- the cell that was found lies in the plane
@@ -69,7 +70,8 @@ is-scaled-requires c κs = search needs
 first-coefficient-requires : tie.Need-first-coefficient-requires
 first-coefficient-requires c κs =
     let b = c .before in
-    (rw (count b) (b .before .before .pre .2), small b)
+    let s = b .before .before in
+    (s .pre .0, subst (λ (n : ℕ). n ≤ 32) (sym (b .before .cut-of .ensures)) (cut-most (s .args .w)), subst (λ (n : ℕ). n ≤ 32) (sym (b .cut-of2 .ensures)) (cut-most (s .args .h)), rw (count b) (s .pre .2))
 
 mul-if1 : tie.Need-mul-if1
 mul-if1 c = omega (arith, small (c .before .before))

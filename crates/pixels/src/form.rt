@@ -1,0 +1,5 @@
+// In what the pixel calls differ, apart from their output. A form goes by value, last among the arguments.
+pub struct Form {
+    pub lanes: usize, // How many lines go through a kernel together: 1 or 4.
+    pub strict: bool, // Whether a coefficient out of range is refused; where not, it is clamped.
+}
