@@ -2,3 +2,4 @@ pub mod Judging
 pub mod Floats
 pub mod Served
 pub mod Outcomes
+pub mod Strict

@@ -5,6 +5,7 @@
 --     coefficients, samples, numbers       refusal 7: a coefficient out of range; refusal 8: a prediction or present sample out of range; both
 --     onPlane, addVerdict, addOf           the add call: refusals 5 and 6, its answer, the whole call
 --     onBuffers, floatVerdict, floatOf     the float call: refusal 6, its answer, the whole call; Exact: the numbers of its block are the pixels, exactly
+use mathlib.Core.Path.{_≡_}
 use mathlib.Core.Bool.{Bool, true, false, _&&_, cond}
 use mathlib.Core.List.{List}
 use Prim.Native.Nat.{ℕ, _+_, _*_, _-_, _/_, _%_, _≤_, _<_}
@@ -69,6 +70,12 @@ kinds tx txtp depth rest =
 abbrev pub coeffOk : Bool → Bool → ℕ → List ℤ → ℕ → Bool
 coeffOk refuses scale depth cs k =
     cond refuses (inRange (lowest (depth + 7)) (highest (depth + 7)) (getD cs k (pos 0))) (cond scale (scalable (getD cs k (pos 0))) true)
+
+-- number k is the lowest below n of a coefficient outside -2^(depth+7) .. 2^(depth+7) - 1; for statements on refusal 7
+pub record FirstOutside (depth n : ℕ) (cs : List ℤ) (k : ℕ) : Type 0 where
+  pub below : k < n
+  pub outside : coeffOk true false depth cs k ≡ false
+  pub before : (j : ℕ) → j < k → coeffOk true false depth cs j ≡ true
 
 -- of a block of w by h, and of its predictions or samples at the front of p, their rows stride apart
 abbrev pub coefficients : Bool → ℕ → ℕ → ℕ → List ℤ → Answer → Answer

@@ -3,3 +3,23 @@ pub struct Form {
     pub lanes: usize, // How many lines go through a kernel together: 1 or 4.
     pub strict: bool, // Whether a coefficient out of range is refused; where not, it is clamped.
 }
+
+pub const STRICT: Form = Form {
+    lanes: 1,
+    strict: true,
+};
+
+pub const STRICT_LANES: Form = Form {
+    lanes: 4,
+    strict: true,
+};
+
+pub const CLAMPED: Form = Form {
+    lanes: 1,
+    strict: false,
+};
+
+pub const CLAMPED_LANES: Form = Form {
+    lanes: 4,
+    strict: false,
+};
