@@ -1,8 +1,8 @@
 -- Every call answers every input: its promise is one equation with a definition that has a value everywhere. Of each call, over that definition:
 --     ..-keeps    a refused call leaves every lent slice as it was
 --     ..-one      two outcomes that the promise allows are the same
--- The add call and the float call promise the same with one lane and with four, so that the seven pairs serve nine calls. From document 01, "Refusal numbers"
--- and "How much each call owes". Assumes nothing.
+-- The add call and the float call promise the same with one lane and with four, and their pairs are stated for strict and clamped calls at once, so that the seven
+-- pairs serve thirteen calls. From document 01, "Refusal numbers" and "How much each call owes", and document 02, section 5. Assumes nothing.
 use mathlib.Core.List.{List, map}
 use Prim.Native.Nat.{ℕ}
 use lib.Ieee
@@ -10,7 +10,7 @@ use lib.Ieee.{Float}
 use lib.IntN.{ℤ, pos, negℤ}
 use lib.ListN.{length}
 use Rattle.answers.proofs.Verdicts.{left}
-use Rattle.pixels.specs.Calls.{addOf, floatOf}
+use Rattle.pixels.specs.Calls.{Reading, addOf, floatOf}
 use Rattle.pixels.proofs.Outcomes.{add-outcome, add-left, float-outcome, float-left}
 use Rattle.chroma.specs.Chroma.{cctxOf}
 use Rattle.chroma.proofs.Outcomes.{refused-leaves, same-outcome}
@@ -24,19 +24,19 @@ use Rattle.lossless.proofs.Outcomes.{step-outcome, undo-outcome}
 use Rattle.claims.specs.Outcomes.{Keeps, One}
 
 -- ---- pixels
-module _ (dst : List ℤ) (stride : ℕ) (cs : List ℤ) (txtp tx depth : ℕ) where
-  pub add-keeps : Keeps (addOf dst stride cs txtp tx depth) dst
-  add-keeps = add-left dst stride cs txtp tx depth
+module _ (how : Reading) (dst : List ℤ) (stride : ℕ) (cs : List ℤ) (txtp tx depth : ℕ) where
+  pub add-keeps : Keeps (addOf how dst stride cs txtp tx depth) dst
+  add-keeps = add-left how dst stride cs txtp tx depth
 
-  pub add-one : One (addOf dst stride cs txtp tx depth)
-  add-one = add-outcome dst stride cs txtp tx depth
+  pub add-one : One (addOf how dst stride cs txtp tx depth)
+  add-one = add-outcome how dst stride cs txtp tx depth
 
-module _ (out : List Float) (cs : List ℤ) (txtp tx depth : ℕ) (pred : List ℤ) where
-  pub float-keeps : Keeps (floatOf out cs txtp tx depth pred) out
-  float-keeps = float-left out cs txtp tx depth pred
+module _ (how : Reading) (out : List Float) (cs : List ℤ) (txtp tx depth : ℕ) (pred : List ℤ) where
+  pub float-keeps : Keeps (floatOf how out cs txtp tx depth pred) out
+  float-keeps = float-left how out cs txtp tx depth pred
 
-  pub float-one : One (floatOf out cs txtp tx depth pred)
-  float-one = float-outcome out cs txtp tx depth pred
+  pub float-one : One (floatOf how out cs txtp tx depth pred)
+  float-one = float-outcome how out cs txtp tx depth pred
 
 -- ---- chroma pairs
 module _ (u v : List ℤ) (s c : ℤ) (depth : ℕ) where

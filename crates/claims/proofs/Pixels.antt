@@ -26,7 +26,7 @@ use Rattle.tables.specs.Dense.{denseOf}
 use Rattle.passes.specs.Passes.{entry, settledTo, passesOf, swOf, shOf}
 use Rattle.passes.proofs.Agreement.{Leaves, lanes-agree}
 use Rattle.pixels.specs.Pixels.{repeats, residualAt, pixelOf}
-use Rattle.pixels.specs.Calls.{wOf, hOf, addVerdict, added, addOf, Exact}
+use Rattle.pixels.specs.Calls.{Reading, wOf, hOf, addVerdict, added, addOf, Exact}
 use Rattle.pixels.proofs.Floats.{exact-call}
 use Rattle.pixels.proofs.Judging.{add-passed, last-row}
 use Rattle.pixels.proofs.Outcomes.{Adds, Fills, add-lanes, float-lanes}
@@ -47,24 +47,24 @@ module _ (tx txtp depth : ℕ) (cs : List ℤ) where
   residual-dense y x = refl
 
 -- ---- the add call
-module _ (dst : List ℤ) (stride : ℕ) (cs : List ℤ) (txtp tx depth : ℕ) where
-  pub add-calls : (one four : Answer) (plane plane′ : List ℤ) → Adds dst stride cs txtp tx depth (one, plane) → Adds dst stride cs txtp tx depth (four, plane′) → (one ≡ four) × (plane ≡ plane′)
-  add-calls = add-lanes dst stride cs txtp tx depth
+module _ (how : Reading) (dst : List ℤ) (stride : ℕ) (cs : List ℤ) (txtp tx depth : ℕ) where
+  pub add-calls : (one four : Answer) (plane plane′ : List ℤ) → Adds how dst stride cs txtp tx depth (one, plane) → Adds how dst stride cs txtp tx depth (four, plane′) → (one ≡ four) × (plane ≡ plane′)
+  add-calls = add-lanes how dst stride cs txtp tx depth
 
-  pub add-pixel : addOf dst stride cs txtp tx depth .0 .number ≡ 0 → (y x : ℕ) → y < hOf tx → x < wOf tx → gridOf stride (addOf dst stride cs txtp tx depth .1) y x ≡ pixelOf depth (gridOf stride dst y x) (residualAt tx txtp depth cs y x)
+  pub add-pixel : addOf how dst stride cs txtp tx depth .0 .number ≡ 0 → (y x : ℕ) → y < hOf tx → x < wOf tx → gridOf stride (addOf how dst stride cs txtp tx depth .1) y x ≡ pixelOf depth (gridOf stride dst y x) (residualAt tx txtp depth cs y x)
   unfolding addOf
   add-pixel e y x l m =
-      let p = add-passed dst stride cs txtp tx depth e .1 in
-      let n : x < stride = N.lt-of-lt-of-le m (p .wide) in
-      let i : y * stride + x < length dst = omega (arith, last-row (hOf tx) stride (wOf tx) (length dst) (p .reach) y l) in
-      ap (λ (r : Answer × List ℤ). gridOf stride (r .1) y x) (taken (addVerdict dst stride cs txtp tx depth) dst (added dst stride cs txtp tx depth) e)
+      let p = add-passed (how .refuses) dst stride cs txtp tx depth e .1 in
+      let n : x < stride = N.lt-of-lt-of-le m (p .fits .wide) in
+      let i : y * stride + x < length dst = omega (arith, last-row (hOf tx) stride (wOf tx) (length dst) (p .fits .reach) y l) in
+      ap (λ (r : Answer × List ℤ). gridOf stride (r .1) y x) (taken (addVerdict (how .refuses) dst stride cs txtp tx depth) dst (added dst stride cs txtp tx depth) e)
       ∙ tab-at (pos 0) (length dst) _ (y * stride + x) i
       ∙ (rw (cell-row y n, cell-column y n, lt-ltb y (hOf tx) l, lt-ltb x (wOf tx) m))
 
 -- ---- the float call
-module _ (out : List Float) (cs : List ℤ) (txtp tx depth : ℕ) (pred : List ℤ) where
-  pub float-calls : (one four : Answer) (output output′ : List Float) → Fills out cs txtp tx depth pred (one, output) → Fills out cs txtp tx depth pred (four, output′) → (one ≡ four) × (output ≡ output′)
-  float-calls = float-lanes out cs txtp tx depth pred
+module _ (how : Reading) (out : List Float) (cs : List ℤ) (txtp tx depth : ℕ) (pred : List ℤ) where
+  pub float-calls : (one four : Answer) (output output′ : List Float) → Fills how out cs txtp tx depth pred (one, output) → Fills how out cs txtp tx depth pred (four, output′) → (one ≡ four) × (output ≡ output′)
+  float-calls = float-lanes how out cs txtp tx depth pred
 
-  pub float-pixel : (a : Answer) (output : List Float) → Fills out cs txtp tx depth pred (a, output) → a .number ≡ 0 → Exact output cs txtp tx depth pred
-  float-pixel = exact-call out cs txtp tx depth pred
+  pub float-pixel : (a : Answer) (output : List Float) → Fills how out cs txtp tx depth pred (a, output) → a .number ≡ 0 → Exact output cs txtp tx depth pred
+  float-pixel = exact-call how out cs txtp tx depth pred

@@ -1,5 +1,5 @@
 -- P1 to P12 of document 01, "Sums on both sides of an edge", as one table. Definitions only; proofs/Worked shows that the definitions yield its results.
---     callOf       the add call at depth 8 on a plane of 100s that is as large as the block, with one coefficient that isn't 0
+--     callOf       the strict add call at depth 8 on a plane of 100s that is as large as the block, with one coefficient that isn't 0
 --     Case         a call and the slices that it is to leave: of pixels, of chroma pairs, of the WHT
 --     outcome      the call's answer, and the slices that it leaves
 --     wanted       the slices that the table has
@@ -14,7 +14,7 @@ use Rattle.whole.specs.Sums.{tab}
 use Rattle.answers.specs.declared.Answer.{Answer}
 use Rattle.tables.specs.Sizes.{cut}
 use Rattle.chroma.specs.Chroma.{cctxOf}
-use Rattle.pixels.specs.Calls.{wOf, hOf, addOf}
+use Rattle.pixels.specs.Calls.{strict, wOf, hOf, addOf}
 use Rattle.wht.specs.Calls.{fwhtOf}
 
 -- n times 100
@@ -26,7 +26,7 @@ abbrev only : ℕ → ℕ → ℤ → List ℤ
 only n k v = tab n (λ i. cond (eqb i k) v (pos 0))
 
 abbrev pub callOf : ℕ → ℕ → ℕ → ℤ → Answer × List ℤ
-callOf tx txtp k v = addOf (rest (hOf tx * wOf tx)) (wOf tx) (only (cut (wOf tx) * cut (hOf tx)) k v) txtp tx 8
+callOf tx txtp k v = addOf strict (rest (hOf tx * wOf tx)) (wOf tx) (only (cut (wOf tx) * cut (hOf tx)) k v) txtp tx 8
 
 -- pixels: a size number, a type number, the one coefficient that isn't 0 by its number and its value; the pixels that it makes of a prediction of 100 at depth 8
 -- chroma: u, v, sine, cosine; u and v as they are left, at depth 8
