@@ -2,6 +2,7 @@
 --     Answers    every call's answer and what it leaves
 --     Slices     which slice each refusal names
 --     Pixels     one lane and four lanes, dense table products, each pixel
+--     Strict     coefficients out of range
 --     Chroma     pair by pair, and how far a pair drifts that is turned back
 --     Wht        each transform undoes the other
 --     History    stepping back, and the wanted block
@@ -15,6 +16,7 @@
 pub mod Answers
 pub mod Slices
 pub mod Pixels
+pub mod Strict
 pub mod Chroma
 pub mod Wht
 pub mod History

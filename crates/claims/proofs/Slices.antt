@@ -21,7 +21,7 @@ use Rattle.answers.proofs.Verdicts.{either, search-either}
 use Rattle.ranges.specs.Cells.{cellOk}
 use Rattle.tables.specs.Sizes.{cut, scaled}
 use Rattle.tables.specs.Kinds.{horOf, verOf, hasKind}
-use Rattle.pixels.specs.Calls.{wOf, hOf, kinds, coeffOk, numbers, onPlane, onBuffers, addVerdict, addOf, floatVerdict, floatOf}
+use Rattle.pixels.specs.Calls.{Reading, wOf, hOf, kinds, coeffOk, numbers, addVerdict, addOf, floatVerdict, floatOf}
 use Rattle.chroma.specs.Chroma.{low, high, badOf, firstBad, angleOk, verdict, cctxOf}
 use Rattle.wht.specs.Calls.{numberOk, outside, fwhtOf, iwhtOf}
 use Rattle.wht.specs.Calls as wht
@@ -43,32 +43,32 @@ module _ (six : ℕ) where
       either Names (hasKind (wOf tx) (horOf txtp)) _ _ (λ e. refl) (λ e.
       either Names (hasKind (hOf tx) (verOf txtp)) _ _ (λ e. refl) (λ e. h)))))
 
-  numbers-names : (w h depth : ℕ) (cs p : List ℤ) (stride : ℕ) → Names (numbers w h depth cs p stride)
-  numbers-names w h depth cs p stride =
-      search-either 7 1 (cut w * cut h) (λ k. k) (seek (coeffOk (scaled w h) cs) 0 (cut w * cut h)) _ Names (λ e. refl)
+  numbers-names : (refuses : Bool) (w h depth : ℕ) (cs p : List ℤ) (stride : ℕ) → Names (numbers refuses w h depth cs p stride)
+  numbers-names refuses w h depth cs p stride =
+      search-either 7 1 (cut w * cut h) (λ k. k) (seek (coeffOk refuses (scaled w h) depth cs) 0 (cut w * cut h)) _ Names (λ e. refl)
       (search-either 8 2 (h * w) (cellAt 0 stride w) (seek (cellOk (pos 0) (highest depth) p 0 stride w) 0 (h * w)) done Names (λ e. refl) refl)
 
-module _ (dst : List ℤ) (stride : ℕ) (cs : List ℤ) (txtp tx depth : ℕ) where
-  pub add-slice : let a = addOf dst stride cs txtp tx depth .0 in a .slice ≡ addSlice cs tx (a .number)
+module _ (how : Reading) (dst : List ℤ) (stride : ℕ) (cs : List ℤ) (txtp tx depth : ℕ) where
+  pub add-slice : let a = addOf how dst stride cs txtp tx depth .0 in a .slice ≡ addSlice cs tx (a .number)
   unfolding addOf addVerdict
   add-slice =
       let six : ℕ = cond (enough tx cs) 2 1 in
-      kinds-names six tx txtp depth (onPlane (wOf tx) (hOf tx) depth dst stride cs)
+      kinds-names six tx txtp depth _
       (either (Names six) (leb (wOf tx) stride && leb stride 65536) _ _ (λ e. refl) (λ e.
       either (Names six) (enough tx cs) _ _ (λ e. rw e) (λ e.
       either (Names six) (leb ((hOf tx - 1) * stride + wOf tx) (length dst)) _ _ (λ f. rw e) (λ f.
-      numbers-names six (wOf tx) (hOf tx) depth cs dst stride))))
+      numbers-names six (how .refuses) (wOf tx) (hOf tx) depth cs dst stride))))
 
-module _ (out : List Float) (cs : List ℤ) (txtp tx depth : ℕ) (pred : List ℤ) where
-  pub float-slice : let a = floatOf out cs txtp tx depth pred .0 in a .slice ≡ floatSlice cs pred tx (a .number)
+module _ (how : Reading) (out : List Float) (cs : List ℤ) (txtp tx depth : ℕ) (pred : List ℤ) where
+  pub float-slice : let a = floatOf how out cs txtp tx depth pred .0 in a .slice ≡ floatSlice cs pred tx (a .number)
   unfolding floatOf floatVerdict
   float-slice =
       let six : ℕ = cond (enough tx cs) (cond (leb (hOf tx * wOf tx) (length pred)) 3 2) 1 in
-      kinds-names six tx txtp depth (onBuffers (wOf tx) (hOf tx) depth (length out) cs pred)
+      kinds-names six tx txtp depth _
       (either (Names six) (enough tx cs) _ _ (λ e. rw e) (λ e.
       either (Names six) (leb (hOf tx * wOf tx) (length pred)) _ _ (λ f. rw (e, f)) (λ f.
       either (Names six) (leb (hOf tx * wOf tx) (length out)) _ _ (λ g. rw (e, f)) (λ g.
-      numbers-names six (wOf tx) (hOf tx) depth cs pred (wOf tx)))))
+      numbers-names six (how .refuses) (wOf tx) (hOf tx) depth cs pred (wOf tx)))))
 
 -- ---- chroma pairs
 module _ (u v : List ℤ) (s c : ℤ) (depth : ℕ) where
