@@ -4,28 +4,28 @@
 --     fwht-slice, iwht-slice      6 names the lowest list that hasn't sixteen numbers, 7 the list that is read
 --     step-slice, undo-slice      6 names the levels where they aren't sixteen, else the plane; 7 the levels; 8 and 10 the plane
 -- Any other number, Done among them, names no slice: 0. Assumes nothing.
-use mathlib.Core.Path.{_≡_, refl, ap}
-use mathlib.Core.Bool.{Bool, true, false, cond, _&&_}
-use mathlib.Core.List.{List, map}
+use mathlib.Core.Path.{_≡_, refl}
+use mathlib.Core.Bool.{Bool, cond, _&&_}
+use mathlib.Core.List.{List}
 use Prim.Native.Nat.{ℕ, _+_, _*_, _-_}
-use lib.Dec.{eqb, leb, ltb}
+use lib.Dec.{eqb, leb}
 use lib.Ieee
 use lib.Ieee.{Float}
 use lib.IntN.{ℤ, pos, negℤ}
 use lib.ListN.{length}
-use Rattle.whole.specs.Numbers.{inRange, highest}
+use Rattle.whole.specs.Numbers.{highest}
 use Rattle.whole.specs.Search.{seek, cellAt}
 use Rattle.answers.specs.declared.Answer.{Answer}
-use Rattle.answers.specs.Answers.{done, refused, unless, searched}
+use Rattle.answers.specs.Answers.{done}
 use Rattle.answers.proofs.Verdicts.{either, search-either}
 use Rattle.ranges.specs.Cells.{cellOk}
 use Rattle.tables.specs.Sizes.{cut, scaled}
 use Rattle.tables.specs.Kinds.{horOf, verOf, hasKind}
 use Rattle.pixels.specs.Calls.{Reading, wOf, hOf, kinds, coeffOk, numbers, addVerdict, addOf, floatVerdict, floatOf}
 use Rattle.chroma.specs.Chroma.{low, high, badOf, firstBad, angleOk, verdict, cctxOf}
-use Rattle.wht.specs.Calls.{numberOk, outside, fwhtOf, iwhtOf}
+use Rattle.wht.specs.Calls.{numberOk, fwhtOf, iwhtOf}
 use Rattle.wht.specs.Calls as wht
-use Rattle.lossless.specs.Gains.{presentOk, laterOk, leaves, samples, judged, gaining}
+use Rattle.lossless.specs.Gains.{presentOk, laterOk, judged, gaining}
 use Rattle.lossless.specs.Step.{Step, spot, sample, deep, strides, widths, fits, front, gainOf, stepOf, undoOf}
 use Rattle.claims.specs.Slices.{byNumber, enough, addSlice, floatSlice, chromaSlice, whtSlice, stepSlice}
 
