@@ -85,11 +85,11 @@ cols-bounded : (n code w h : ℕ) (g : ℕ → ℕ → ℤ) → hasKind n code �
 cols-bounded n code w h g k p r x a b =
     within-all (2 ^ 30) (denseOf n code (tab h (λ i. g i x))) (dense-size n code (tab h (λ i. g i x)) k (within-tab (2 ^ 19) h (λ i. g i x) (λ y q. p y x q b))) r
 
-pub passes-size : (tx txtp depth : ℕ) (cs : List ℤ) → Ready tx txtp depth cs → Bounded (2 ^ 30) (swOf tx) (shOf tx) (passesOf tx txtp depth cs)
+pub passes-size : (rowwise : Bool) (tx txtp depth : ℕ) (cs : List ℤ) → Ready tx txtp depth cs → Bounded (2 ^ 30) (swOf tx) (shOf tx) (passesOf rowwise tx txtp depth cs)
 unfolding passesOf
-passes-size tx txtp depth cs b =
+passes-size rowwise tx txtp depth cs b =
     let w = sizeAt tx .w in
     let h = sizeAt tx .h in
     let first = sizeAt tx .first in
-    cols-bounded h (verOf txtp) (cut w) (cut h) (middleOf w h first (horOf txtp) depth cs) (b .down)
-    (λ r x p q. clamped-size depth (roundShift first (rowsBy (denseOf w (horOf txtp)) (cut w) (loaded (scaled w h) depth (cut h) cs) r x)) (b .deep))
+    cols-bounded h (verOf txtp) (cut w) (cut h) (middleOf rowwise w h first (horOf txtp) depth cs) (b .down)
+    (λ r x p q. clamped-size depth (roundShift first (rowsBy (denseOf w (horOf txtp)) (cut w) (loaded rowwise (scaled w h) depth (cut w) (cut h) cs) r x)) (b .deep))

@@ -2,7 +2,8 @@
 --     scaling      of a coefficient: floor ((181 v + 128) / 256) where the size asks for it
 --     entry        a coefficient as it enters: scaled where log2 w + log2 h is odd, then clamped to -2^(depth+7) .. 2^(depth+7) - 1
 --     Scalable     the range in which a scaled coefficient is accepted, for the first n numbers
---     loaded       the coefficient of row r, column x is number r + x * sh
+--     numberAt     the coefficient of row r, column x is number r + x * sh; in row order, of document 02, section 1, number r * sw + x
+--     loaded       what enters at row r, column x
 --     clampTo      to -2^bits .. 2^bits - 1
 --     settledTo    half of 2^shift added, divided by 2^shift, rounded down, clamped: after the rows to the same range
 --     blockOf      every row through the horizontal kernel, the step between, every column through the vertical kernel
@@ -32,19 +33,22 @@ entry scale depth v = clampTo (depth + 7) (scaling scale v)
 abbrev pub settledTo : ℕ → ℕ → ℤ → ℤ
 settledTo bits shift z = clampTo bits (roundShift shift z)
 
-abbrev pub loaded : Bool → ℕ → ℕ → List ℤ → ℕ → ℕ → ℤ
-loaded scale depth sh cs r x = entry scale depth (getD cs (r + x * sh) (pos 0))
+abbrev pub numberAt : Bool → ℕ → ℕ → ℕ → ℕ → ℕ
+numberAt rowwise sw sh r x = cond rowwise (r * sw + x) (r + x * sh)
+
+abbrev pub loaded : Bool → Bool → ℕ → ℕ → ℕ → List ℤ → ℕ → ℕ → ℤ
+loaded rowwise scale depth sw sh cs r x = entry scale depth (getD cs (numberAt rowwise sw sh r x) (pos 0))
 
 -- the passes of a block of w by h, with the shift after its rows and the kinds of its rows and columns
-abbrev pub middleOf : ℕ → ℕ → ℕ → ℕ → ℕ → List ℤ → ℕ → ℕ → ℤ
-middleOf w h first hor depth cs r x = settledTo (depth + 7) first (rowsBy (denseOf w hor) (cut w) (loaded (scaled w h) depth (cut h) cs) r x)
+abbrev pub middleOf : Bool → ℕ → ℕ → ℕ → ℕ → ℕ → List ℤ → ℕ → ℕ → ℤ
+middleOf rowwise w h first hor depth cs r x = settledTo (depth + 7) first (rowsBy (denseOf w hor) (cut w) (loaded rowwise (scaled w h) depth (cut w) (cut h) cs) r x)
 
-abbrev pub blockOf : ℕ → ℕ → ℕ → ℕ → ℕ → ℕ → List ℤ → ℕ → ℕ → ℤ
-blockOf w h first hor ver depth cs = colsBy (denseOf h ver) (cut h) (middleOf w h first hor depth cs)
+abbrev pub blockOf : Bool → ℕ → ℕ → ℕ → ℕ → ℕ → ℕ → List ℤ → ℕ → ℕ → ℤ
+blockOf rowwise w h first hor ver depth cs = colsBy (denseOf h ver) (cut h) (middleOf rowwise w h first hor depth cs)
 
-unfoldable pub passesOf : ℕ → ℕ → ℕ → List ℤ → ℕ → ℕ → ℤ
+unfoldable pub passesOf : Bool → ℕ → ℕ → ℕ → List ℤ → ℕ → ℕ → ℤ
 unfolding denseOf scaling clamp
-passesOf tx txtp depth cs = blockOf (sizeAt tx .w) (sizeAt tx .h) (sizeAt tx .first) (horOf txtp) (verOf txtp) depth cs
+passesOf rowwise tx txtp depth cs = blockOf rowwise (sizeAt tx .w) (sizeAt tx .h) (sizeAt tx .first) (horOf txtp) (verOf txtp) depth cs
 
 -- the first n numbers of cs may be scaled, where the size asks for it
 abbrev pub scalable : ℤ → Bool

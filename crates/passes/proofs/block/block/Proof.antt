@@ -9,7 +9,7 @@ use lib.ListN.{length, getD}
 use Rattle.whole.specs.Grid.{gridOf, rowsBy, Same, Bounded}
 use Rattle.tables.specs.Dense.{denseOf}
 use Rattle.tables.proofs.Kernels.{cut-most}
-use Rattle.passes.specs.Passes.{scaling, loaded, settledTo}
+use Rattle.passes.specs.Passes.{scaling, numberAt, loaded, settledTo}
 use Rattle.passes.proofs.Steps.{clamped-bounded, rows-bounded, whole-block, area}
 use Rattle.passes.proofs.Places.{fours}
 use Rattle.passes.proofs.block.block.Statement.{statement}
@@ -33,7 +33,7 @@ module _ (l : tie.After-load) where
   given : Bounded (2 ^ 19) sw sh (gridOf sw (l .load .last .0))
   given =
       let s = entered .before .before .before in
-      clamped-bounded (s .args .bd) sw sh (gridOf sw (l .load .last .0)) (λ r x. scaling (entered .is-scaled .result) (getD (s .args .coeff .now) (r + x * sh) (pos 0))) (s .pre .0 .deep) (l .load .ensures)
+      clamped-bounded (s .args .bd) sw sh (gridOf sw (l .load .last .0)) (λ r x. scaling (entered .is-scaled .result) (getD (s .args .coeff .now) (numberAt (s .args .rowwise) sw sh r x) (pos 0))) (s .pre .0 .deep) (l .load .ensures)
 
 turned : (r : tie.After-rows) → let l = r .before .before .before in Bounded (2 ^ 30) (sw l) (sh l) (gridOf (sw l) (r .rows .last .0))
 turned r =
@@ -110,7 +110,7 @@ returns c =
     let s = i .before .before .before in
     rw (← i .before .before .cut-of .ensures, ← i .before .cut-of2 .ensures, ← i .is-scaled .ensures)
     (whole-block (sw l) (sh l) (denseOf (s .args .w) (s .args .hor)) (denseOf (s .args .h) (s .args .ver)) (settledTo (s .args .bd + 7) (s .args .first))
-    (loaded (i .is-scaled .result) (s .args .bd) (sh l) (s .args .coeff .now)) (gridOf (sw l) (l .load .last .0)) (gridOf (sw l) (r .rows .last .0)) (gridOf (sw l) (t .step .last .0)) (gridOf (sw l) (d .columns .last .0))
+    (loaded (s .args .rowwise) (i .is-scaled .result) (s .args .bd) (sw l) (sh l) (s .args .coeff .now)) (gridOf (sw l) (l .load .last .0)) (gridOf (sw l) (r .rows .last .0)) (gridOf (sw l) (t .step .last .0)) (gridOf (sw l) (d .columns .last .0))
     (l .load .ensures) (r .rows .ensures) (t .step .ensures) (d .columns .ensures))
 
 pub block-spec : {M : Type 1} → statement M

@@ -38,7 +38,7 @@ returns c =
     let h = v .before in
     let z = h .before .before in
     let s = z .before in
-    subst (λ (t : Size). Same (cut (t .w)) (cut (t .h)) (gridOf (cut (t .w)) (b .block .last .0)) (blockOf (t .w) (t .h) (t .first) (horOf (s .args .txtp)) (verOf (s .args .txtp)) (s .args .bd) (s .args .coeff .now))) (z .size-of .ensures)
+    subst (λ (t : Size). Same (cut (t .w)) (cut (t .h)) (gridOf (cut (t .w)) (b .block .last .0)) (blockOf (s .args .rowwise) (t .w) (t .h) (t .first) (horOf (s .args .txtp)) (verOf (s .args .txtp)) (s .args .bd) (s .args .coeff .now))) (z .size-of .ensures)
     (rw (← h .hor .ensures, ← v .ver .ensures) (b .block .ensures))
 
 pub inv-txfm-passes-spec : {M : Type 1} → statement M

@@ -1,141 +1,55 @@
--- `passes::load::load` meets its contract: after r turns the first r rows hold their coefficients. Assumes nothing.
+-- `passes::load::load` meets its contract: the strides of each order lead to its numbers. Assumes nothing.
 use mathlib.Core.Path.{_≡_, refl, sym, ap, _∙_, subst}
-use Prim.Native.Nat.{ℕ, _+_, _*_, _-_, _≤_, _<_}
+use mathlib.Core.Bool.{true, false}
+use Prim.Native.Nat.{ℕ, _+_, _*_, _≤_, _<_}
 use native.Mathlib.Nat as N
 use native.Mathlib.Omega.{arith}
 use borrow.Author.Needs.{needs}
-use lib.IntN.{ℤ, pos}
-use lib.ListN.{length, getD, take, drop}
-use mir.Syntax.{w32}
-use mir.Val.{toZ, ofZ}
-use mir.ValLaws.{toZ-ofZ}
-use Rattle.whole.specs.Numbers.{clamp, lowest}
-use Rattle.whole.specs.Sums.{tab}
-use Rattle.whole.proofs.Num.{back}
-use Rattle.whole.proofs.Cells.{row-in}
-use Rattle.whole.proofs.Fill.{tab-at}
-use Rattle.whole.proofs.Grid.{Rows, fill-none, fill-row}
-use Rattle.whole.proofs.Lent.{part-count}
-use Rattle.passes.specs.Passes.{scaling, Scalable}
+use lib.IntN.{pos}
+use lib.ListN.{getD}
+use Rattle.whole.proofs.Cells.{cell-in}
+use Rattle.passes.specs.Passes.{entry, numberAt}
 use Rattle.passes.proofs.load.load.Statement.{statement}
 use Rattle.passes.proofs.load.load.Tie as tie
 
-abbrev Inv-loop : tie.InvT-loop
-Inv-loop work₀ coeff sw sh scale depth lo hi r₀ work r = Rows sw sh (λ k x. clamp (toZ w32 lo) (toZ w32 hi) (scaling scale (getD coeff (k + x * sh) (pos 0)))) work₀ work r
+-- the number of row r, column x by the strides of its order
+in-rows : (sw r x : ℕ) → r * sw + x * 1 ≡ r * sw + x
+in-rows sw r x = omega arith
 
-abbrev μ-loop : tie.MeasureT-loop
-μ-loop work₀ coeff sw sh scale depth lo hi r₀ work r = sh - r
+in-columns : (sh r x : ℕ) → r * 1 + x * sh ≡ r + x * sh
+in-columns sh r x = omega arith
 
-end : (c : tie.In-loop Inv-loop μ-loop) → let s = c .before .before .before .before in c .before .loop .r * s .args .sw + s .args .sw ≤ length (s .args .work .now)
-end c = row-in _ (c .loop-test .taken) (c .before .before .before .before .pre .0)
+load-by-requires : tie.Need-load-by-requires
+load-by-requires c κs =
+    let s = c .before .before in
+    (s .pre, λ r x a b. omega (arith, cell-in {r = r} {x = x} {w = s .args .sw} {h = s .args .sh} a b (N.le-refl (s .args .sh * s .args .sw))))
 
--- what row k holds at x, by the two ends as the machine has them
-rule : tie.At-loop Inv-loop μ-loop → ℕ → ℕ → ℤ
-rule h k x =
-    let s = h .before .before .before in
-    clamp (toZ w32 (ofZ w32 (h .before .before .low-end .result))) (toZ w32 (ofZ w32 (h .before .high-end .result))) (scaling (s .args .scale) (getD (s .args .coeff .now) (k + x * s .args .sh) (pos 0)))
+load-by-requires-2 : tie.Need-load-by-requires-2
+load-by-requires-2 c κs =
+    let s = c .before .before in
+    (s .pre, λ r x a b. omega (arith, cell-in {r = x} {x = r} {w = s .args .sh} {h = s .args .sw} b a (N.le-refl (s .args .sw * s .args .sh))))
 
--- the part is a row
-module _ (c : tie.After-load-row-arg Inv-loop μ-loop) where
-  abbrev w : ℕ
-  w = c .before .before .before .before .before .args .sw
+same-length : tie.Need-same-length
+same-length c = search needs
 
-  abbrev a : ℕ
-  a = c .before .before .loop .r * w
+returns : tie.Need-returns
+returns c r x a b =
+    let t = c .before in
+    let s = t .before .before .before in
+    t .load-by .ensures r x a b
+    ∙ ap (λ k. entry (s .args .scale) (s .args .depth) (getD (s .args .coeff .now) k (pos 0))) (in-rows (s .args .sw) r x ∙ ap (λ o. numberAt o (s .args .sw) (s .args .sh) r x) (sym (t .before .before .if1 .taken)))
 
-  wide : a + w - a ≡ w
-  wide = N.add-sub-cancel-left a w
+same-length-2 : tie.Need-same-length-2
+same-length-2 c = search needs
 
-  long : length (take (a + w - a) (drop a (c .before .before .loop .work))) ≡ w
-  long = part-count (c .before .before .loop .work) a (a + w - a) (omega (arith, end (c .before), wide, c .before .before .loop .inv .long)) ∙ wide
-
-add-low-end : tie.Need-add-low-end Inv-loop μ-loop
-add-low-end c = search needs
-
-low-end-requires : tie.Need-low-end-requires Inv-loop μ-loop
-low-end-requires c κs = search needs
-
-add-high-end : tie.Need-add-high-end Inv-loop μ-loop
-add-high-end c = search needs
-
-high-end-requires : tie.Need-high-end-requires Inv-loop μ-loop
-high-end-requires c κs = search needs
-
-loop-holds : tie.Need-loop-holds Inv-loop μ-loop
-loop-holds c = fill-none
-
-mul-a : tie.Need-mul-a Inv-loop μ-loop
-mul-a c = omega (arith, end c)
-
-add-e : tie.Need-add-e Inv-loop μ-loop
-add-e c = omega (arith, end c)
-
-mul-load-row : tie.Need-mul-load-row Inv-loop μ-loop
-mul-load-row c = omega (arith, end c, c .before .before .before .before .good .0 .1)
-
-sub-load-row : tie.Need-sub-load-row Inv-loop μ-loop
-sub-load-row c = omega arith
-
-part-load-row-start : tie.Need-part-load-row-start Inv-loop μ-loop
-part-load-row-start c = omega arith
-
-part-load-row-end : tie.Need-part-load-row-end Inv-loop μ-loop
-part-load-row-end c = omega (arith, end c, c .before .loop .inv .long)
-
-load-row-requires : tie.Need-load-row-requires Inv-loop μ-loop
-load-row-requires c κs =
-    let s = c .before .before .before .before .before in
-    rw (long c) (c .before .loop-test .taken, s .pre .1, s .pre .3)
-
-add-r : tie.Need-add-r Inv-loop μ-loop
-add-r c = omega arith
-
-loop-less : tie.Need-loop-less Inv-loop μ-loop
-loop-less c = omega arith
-
-loop-again : tie.Need-loop-again Inv-loop μ-loop
-unfolding rule
-loop-again c =
-    let f = c .before in
-    let g = f .before in
-    let h = g .before .before in
-    let s = h .before .before .before in
-    fill-row (h .loop .inv) (g .before .loop-test .taken) (s .pre .0) _ (wide g) (f .load-row .last .0) (f .load-row .kept .0)
-    (λ x q. ap (λ l. getD l x (pos 0)) (f .load-row .ensures) ∙ ap (λ m. getD (tab m (rule h (h .loop .r))) x (pos 0)) (long g) ∙ tab-at (pos 0) (w g) (rule h (h .loop .r)) x q)
-
-same-length : tie.Need-same-length Inv-loop μ-loop
-same-length c = c .before .loop .inv .long
-
-returns : tie.Need-returns Inv-loop μ-loop
-returns c r x h l =
-    let a = c .before in
-    let b = a .before in
-    let s = b .before .before in
-    let v = scaling (s .args .scale) (getD (s .args .coeff .now) (r + x * s .args .sh) (pos 0)) in
-    a .loop .inv .holds r x (N.lt-of-lt-of-le h (c .loop-test .left)) l
-    ∙ ap (λ z. clamp z (toZ w32 (ofZ w32 (b .high-end .result))) v) (back (b .before .low-end .ok) ∙ b .before .low-end .ensures)
-    ∙ ap (λ z. clamp (lowest (s .args .depth + 7)) z v) (back (b .high-end .ok) ∙ b .high-end .ensures)
+returns-2 : tie.Need-returns-2
+returns-2 c r x a b =
+    let t = c .before in
+    let s = t .before .before .before in
+    t .load-by2 .ensures r x a b
+    ∙ ap (λ k. entry (s .args .scale) (s .args .depth) (getD (s .args .coeff .now) k (pos 0))) (in-columns (s .args .sh) r x ∙ ap (λ o. numberAt o (s .args .sw) (s .args .sh) r x) (sym (t .before .before .if1 .left)))
 
 pub load-spec : {M : Type 1} → statement M
 load-spec =
     tie.close
-    (tie.spec
-    Inv-loop
-    μ-loop
-    add-low-end
-    low-end-requires
-    add-high-end
-    high-end-requires
-    loop-holds
-    mul-a
-    add-e
-    mul-load-row
-    sub-load-row
-    part-load-row-start
-    part-load-row-end
-    load-row-requires
-    add-r
-    loop-less
-    loop-again
-    same-length
-    returns)
+    (tie.spec load-by-requires load-by-requires-2 same-length returns same-length-2 returns-2)

@@ -10,7 +10,6 @@ use mir.Syntax.{w32}
 use mir.Val.{toZ, ofZ}
 use mir.ValLaws.{toZ-ofZ}
 use Rattle.whole.specs.Numbers.{clamp}
-use Rattle.whole.proofs.Cells.{cell-in}
 use Rattle.whole.proofs.Num.{back}
 use Rattle.whole.proofs.Fill.{Filling, fill-start, fill-more, fill-done}
 use Rattle.passes.specs.Passes.{scaling}
@@ -18,37 +17,40 @@ use Rattle.passes.proofs.load.load_row.Statement.{statement}
 use Rattle.passes.proofs.load.load_row.Tie as tie
 
 abbrev Inv-loop : tie.InvT-loop
-Inv-loop row₀ coeff sh r scale lo hi n x₀ row x = Filling (pos 0) (length row₀) (λ k. clamp (toZ w32 lo) (toZ w32 hi) (scaling scale (getD coeff (r + k * sh) (pos 0)))) row x
+Inv-loop row₀ coeff r down across scale lo hi n x₀ row x = Filling (pos 0) (length row₀) (λ k. clamp (toZ w32 lo) (toZ w32 hi) (scaling scale (getD coeff (r * down + k * across) (pos 0)))) row x
 
 abbrev μ-loop : tie.MeasureT-loop
-μ-loop row₀ coeff sh r scale lo hi n x₀ row x = length row₀ - x
+μ-loop row₀ coeff r down across scale lo hi n x₀ row x = length row₀ - x
 
-at : (c : tie.In-loop Inv-loop μ-loop) → let s = c .before .before in s .args .r + c .before .loop .x * s .args .sh < length (s .args .row .now) * s .args .sh
-at c = omega (arith, cell-in (c .loop-test .taken) (c .before .before .pre .0) (N.le-refl _))
+at : (c : tie.In-loop Inv-loop μ-loop) → let s = c .before .before in s .args .r * s .args .down + c .before .loop .x * s .args .across < length (s .args .coeff .now)
+at c = c .before .before .pre .0 (c .before .loop .x) (c .loop-test .taken)
 
 loop-holds : tie.Need-loop-holds Inv-loop μ-loop
 loop-holds c = fill-start refl
 
 mul-scaled : tie.Need-mul-scaled Inv-loop μ-loop
-mul-scaled c = omega (arith, at c, c .before .before .pre .1)
-
-add-scaled : tie.Need-add-scaled Inv-loop μ-loop
-add-scaled c = omega (arith, at c, c .before .before .pre .1)
+mul-scaled c = omega (arith, at c)
 
 mul-scaled-2 : tie.Need-mul-scaled-2 Inv-loop μ-loop
-mul-scaled-2 c = scaled-fits _ _ 4 (N.lt-of-lt-of-le (at c) (c .before .before .pre .1)) (c .before .before .good .1 .0 .1)
+mul-scaled-2 c = omega (arith, at c)
+
+add-scaled : tie.Need-add-scaled Inv-loop μ-loop
+add-scaled c = omega (arith, at c)
+
+mul-scaled-3 : tie.Need-mul-scaled-3 Inv-loop μ-loop
+mul-scaled-3 c = scaled-fits _ _ 4 (at c) (c .before .before .good .1 .0 .1)
 
 shared-slice-copy-out-scaled : tie.Need-shared-slice-copy-out-scaled Inv-loop μ-loop
-shared-slice-copy-out-scaled c = N.lt-of-lt-of-le (at c) (c .before .before .pre .1)
+shared-slice-copy-out-scaled c = at c
 
 scaled-requires : tie.Need-scaled-requires Inv-loop μ-loop
-scaled-requires c κs = let l = c .before in rw (toZ-ofZ w32 _ (record { sfits = c .scaled-arg .given })) (l .before .before .pre .2 _ (at l))
+scaled-requires c κs = let l = c .before in rw (toZ-ofZ w32 _ (record { sfits = c .scaled-arg .given })) (l .before .before .pre .1 (l .before .loop .x) (l .loop-test .taken))
 
 clamped-requires : tie.Need-clamped-requires Inv-loop μ-loop
 clamped-requires c κs = search needs
 
-mul-t12 : tie.Need-mul-t12 Inv-loop μ-loop
-mul-t12 c = omega arith
+mul-t13 : tie.Need-mul-t13 Inv-loop μ-loop
+mul-t13 c = omega arith
 
 slice-set-from-row : tie.Need-slice-set-from-row Inv-loop μ-loop
 slice-set-from-row c = omega arith
@@ -84,12 +86,13 @@ load-row-spec =
     μ-loop
     loop-holds
     mul-scaled
-    add-scaled
     mul-scaled-2
+    add-scaled
+    mul-scaled-3
     shared-slice-copy-out-scaled
     scaled-requires
     clamped-requires
-    mul-t12
+    mul-t13
     slice-set-from-row
     add-x
     loop-less
