@@ -60,7 +60,7 @@ pixel-exact (pos n) h = exact n h
 pixel-exact (negsuc n) h = absurd h
 
 module _ (how : Reading) (out : List Float) (cs : List ℤ) (txtp tx depth : ℕ) (pred : List ℤ) (a : Answer) (left : List Float) where
-  pub exact-call : (a, left) ≡ floatOf how out cs txtp tx depth pred → a .number ≡ 0 → Exact left cs txtp tx depth pred
+  pub exact-call : (a, left) ≡ floatOf how out cs txtp tx depth pred → a .number ≡ 0 → Exact how left cs txtp tx depth pred
   unfolding floatOf
   exact-call e z i l =
       let v = floatVerdict (how .refuses) (length out) cs txtp tx depth pred in
@@ -68,9 +68,9 @@ module _ (how : Reading) (out : List Float) (cs : List ℤ) (txtp tx depth : ℕ
       let p = float-passed (how .refuses) (length out) cs txtp tx depth pred d in
       let w = wOf tx in
       let h = hOf tx in
-      let made = pixelOf depth (getD pred i (pos 0)) (residualAt tx txtp depth cs (i / w) (i % w)) in
-      let here = ap (λ (q : Answer × List Float). getD (q .1) i (pixelF (pos 0))) (e ∙ taken v out (filled out cs txtp tx depth pred) d)
+      let made = pixelOf depth (getD pred i (pos 0)) (residualAt (how .rowwise) tx txtp depth cs (i / w) (i % w)) in
+      let here = ap (λ (q : Answer × List Float). getD (q .1) i (pixelF (pos 0))) (e ∙ taken v out (filled (how .rowwise) out cs txtp tx depth pred) d)
       ∙ tab-at (pixelF (pos 0)) (length out) _ i (N.lt-of-lt-of-le l (p .1 .fits .space))
       ∙ ap (λ b. cond b (pixelF made) (getD out i (pixelF (pos 0)))) (and-true (lt-ltb (i / w) h (row-of w h i l)) (lt-ltb (i % w) w (column-of w h i l))) in
       subst (λ (f : Float). HasValue f false (natAbs made) 1) (sym here)
-      (pixel-exact made (pixel-clamped (highest depth) (getD pred i (pos 0) +ℤ residualAt tx txtp depth cs (i / w) (i % w)) (highest-pixel depth (p .0 .to))))
+      (pixel-exact made (pixel-clamped (highest depth) (getD pred i (pos 0) +ℤ residualAt (how .rowwise) tx txtp depth cs (i / w) (i % w)) (highest-pixel depth (p .0 .to))))

@@ -24,7 +24,7 @@ module _ (how : Reading) (dst : List ℤ) (stride : ℕ) (cs : List ℤ) (txtp t
 
   pub add-left : (addOf how dst stride cs txtp tx depth .0 .number ≡ 0 → ⊥) → addOf how dst stride cs txtp tx depth .1 ≡ dst
   unfolding addOf
-  add-left h = left {A = List ℤ} (addVerdict (how .refuses) dst stride cs txtp tx depth) dst (added dst stride cs txtp tx depth) h
+  add-left h = left {A = List ℤ} (addVerdict (how .refuses) dst stride cs txtp tx depth) dst (added (how .rowwise) dst stride cs txtp tx depth) h
 
   pub add-lanes : (one four : Answer) (plane plane′ : List ℤ) → Adds (one, plane) → Adds (four, plane′) → (one ≡ four) × (plane ≡ plane′)
   add-lanes one four plane plane′ p q =
@@ -41,7 +41,7 @@ module _ (how : Reading) (out : List Float) (cs : List ℤ) (txtp tx depth : ℕ
 
   pub float-left : (floatOf how out cs txtp tx depth pred .0 .number ≡ 0 → ⊥) → floatOf how out cs txtp tx depth pred .1 ≡ out
   unfolding floatOf
-  float-left h = left {A = List Float} (floatVerdict (how .refuses) (length out) cs txtp tx depth pred) out (filled out cs txtp tx depth pred) h
+  float-left h = left {A = List Float} (floatVerdict (how .refuses) (length out) cs txtp tx depth pred) out (filled (how .rowwise) out cs txtp tx depth pred) h
 
   pub float-lanes : (one four : Answer) (output output′ : List Float) → Fills (one, output) → Fills (four, output′) → (one ≡ four) × (output ≡ output′)
   float-lanes one four output output′ p q =

@@ -67,11 +67,11 @@ settled-size depth shift z h =
     let l : 2 ^ depth ≤ 2 ^ 12 = pow-mono h in
     clamp-size (lowest depth) (highest depth) (roundShift shift z) 4096 (omega (arith, lowest-size depth, l)) (N.le-trans (highest-size depth) l)
 
-module _ (tx txtp depth : ℕ) (cs work : List ℤ) (same : Same (swOf tx) (shOf tx) (gridOf (swOf tx) work) (residualOf tx txtp depth cs)) where
+module _ (rowwise : Bool) (tx txtp depth : ℕ) (cs work : List ℤ) (same : Same (swOf tx) (shOf tx) (gridOf (swOf tx) work) (residualOf rowwise tx txtp depth cs)) where
   pub residual-bounded : depth ≤ 12 → Bounded 4096 (swOf tx) (shOf tx) (gridOf (swOf tx) work)
-  residual-bounded h r x a b = subst (λ (z : ℤ). natAbs z ≤ 4096) (sym (same r x a b)) (settled-size depth (sizeAt tx .second) (passesOf tx txtp depth cs r x) h)
+  residual-bounded h r x a b = subst (λ (z : ℤ). natAbs z ≤ 4096) (sym (same r x a b)) (settled-size depth (sizeAt tx .second) (passesOf rowwise tx txtp depth cs r x) h)
 
-  pub residual-served : Sides (wOf tx) (hOf tx) → (y x : ℕ) → y < hOf tx → x < wOf tx → repeated (wOf tx) (hOf tx) (gridOf (swOf tx) work) y x ≡ residualAt tx txtp depth cs y x
+  pub residual-served : Sides (wOf tx) (hOf tx) → (y x : ℕ) → y < hOf tx → x < wOf tx → repeated (wOf tx) (hOf tx) (gridOf (swOf tx) work) y x ≡ residualAt rowwise tx txtp depth cs y x
   residual-served s y x a b = same (y / 2 ^ repeats (hOf tx)) (x / 2 ^ repeats (wOf tx)) (repeat-below (hOf tx) y (s .low) a) (repeat-below (wOf tx) x (s .narrow) b)
 
 -- ---- equal residuals, equal pixels

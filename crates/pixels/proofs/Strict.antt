@@ -99,7 +99,7 @@ module _ (dst : List ℤ) (stride : ℕ) (cs : List ℤ) (txtp tx depth : ℕ) w
   add-accepts e =
       let k = kinds-passed tx txtp depth _ e in
       let p = plane-passed (wOf tx) (hOf tx) (length dst) stride (length cs) _ (k .1) in
-      ap (λ (v : Answer). ends (addFront (length dst) stride (length cs) txtp tx depth v) dst (added dst stride cs txtp tx depth)) (both-accept (wOf tx) (hOf tx) depth cs plane-rest (k .0 .to) (p .1))
+      ap (λ (v : Answer). ends (addFront (length dst) stride (length cs) txtp tx depth v) dst (added false dst stride cs txtp tx depth)) (both-accept (wOf tx) (hOf tx) depth cs plane-rest (k .0 .to) (p .1))
 
   -- refusals 1 to 6 pass
   module _ (fits : addFront (length dst) stride (length cs) txtp tx depth done .number ≡ 0) where
@@ -124,7 +124,7 @@ module _ (out : List Float) (cs : List ℤ) (txtp tx depth : ℕ) (pred : List �
   float-accepts e =
       let k = kinds-passed tx txtp depth _ e in
       let p = buffers-passed (wOf tx) (hOf tx) (length out) (length cs) (length pred) _ (k .1) in
-      ap (λ (v : Answer). ends (floatFront (length out) (length cs) txtp tx depth (length pred) v) out (filled out cs txtp tx depth pred)) (both-accept (wOf tx) (hOf tx) depth cs float-rest (k .0 .to) (p .1))
+      ap (λ (v : Answer). ends (floatFront (length out) (length cs) txtp tx depth (length pred) v) out (filled false out cs txtp tx depth pred)) (both-accept (wOf tx) (hOf tx) depth cs float-rest (k .0 .to) (p .1))
 
   module _ (fits : floatFront (length out) (length cs) txtp tx depth (length pred) done .number ≡ 0) where
     pub float-seven : (k : ℕ) → FirstOutside depth (cut (wOf tx) * cut (hOf tx)) cs k → floatOf strict out cs txtp tx depth pred .0 ≡ refused 7 1 k

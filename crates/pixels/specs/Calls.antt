@@ -1,6 +1,7 @@
--- The two pixel calls, from document 01, "Refusal numbers" and "From coefficients to pixels", and document 02, sections 5 and 6. Definitions only.
+-- The two pixel calls, from document 01, "Refusal numbers" and "From coefficients to pixels", and document 02, sections 1, 5 and 6. Definitions only.
 -- Slice 1 is the coefficients, slice 2 the prediction or plane, slice 3 the output.
---     Reading        how a call takes its coefficients: `strict` refuses those out of range, `clamped` clamps them as document 01 says
+--     Reading        how a call takes its coefficients: `strict` in column order, refused where out of range; `strictRows` so in row order; `clamped` in column
+--                    order, clamped as document 01 says
 --     kinds          refusals 1 to 4: depth, size number, type number, a kind that its length doesn't have
 --     coefficients, samples, numbers       refusal 7: a coefficient out of range; refusal 8: a prediction or present sample out of range; both
 --     onPlane, addVerdict, addOf           the add call: refusals 5 and 6, its answer, the whole call
@@ -29,18 +30,29 @@ use Rattle.passes.specs.Passes.{scalable, passesOf}
 use Rattle.pixels.specs.declared.form.Form.{Form}
 use Rattle.pixels.specs.Pixels.{residualAt, pixelOf, pixelF}
 
+-- rowwise: row r, column x is number r * sw + x; where not, number r + x * sh
 -- refuses: a coefficient outside -2^(depth+7) .. 2^(depth+7) - 1 is refused; where not, it is clamped
 pub record Reading : Type 0 where
+  pub rowwise : Bool
   pub refuses : Bool
 
 abbrev pub strict : Reading
-strict = record { refuses = true }
+strict = record { rowwise = false; refuses = true }
+
+abbrev pub strictRows : Reading
+strictRows = record { rowwise = true; refuses = true }
 
 abbrev pub clamped : Reading
-clamped = record { refuses = false }
+clamped = record { rowwise = false; refuses = false }
 
 abbrev pub readingOf : Form → Reading
-readingOf form = record { refuses = form .strict }
+readingOf form = record { rowwise = form .rowwise; refuses = form .strict }
+
+-- a list in column order and its turned copy in row order; numbers past sw * sh may be anything
+pub record Turned (sw sh : ℕ) (columns rows : List ℤ) : Type 0 where
+  pub enough : sw * sh ≤ length columns
+  pub enough-rows : sw * sh ≤ length rows
+  pub same : (r x : ℕ) → r < sh → x < sw → getD rows (r * sw + x) (pos 0) ≡ getD columns (r + x * sh) (pos 0)
 
 -- the sides of a size number
 abbrev pub wOf : ℕ → ℕ
@@ -111,12 +123,12 @@ abbrev pub addedBy : ℕ → ℕ → ℕ → (ℕ → ℕ → ℤ) → List ℤ 
 addedBy w h depth R dst stride =
     tab (length dst) (λ i. cond (inBlock stride w h i) (pixelOf depth (getD dst i (pos 0)) (R (i / stride) (i % stride))) (getD dst i (pos 0)))
 
-abbrev pub added : List ℤ → ℕ → List ℤ → ℕ → ℕ → ℕ → List ℤ
-added dst stride cs txtp tx depth = addedBy (wOf tx) (hOf tx) depth (residualAt tx txtp depth cs) dst stride
+abbrev pub added : Bool → List ℤ → ℕ → List ℤ → ℕ → ℕ → ℕ → List ℤ
+added rowwise dst stride cs txtp tx depth = addedBy (wOf tx) (hOf tx) depth (residualAt rowwise tx txtp depth cs) dst stride
 
 unfoldable pub addOf : Reading → List ℤ → ℕ → List ℤ → ℕ → ℕ → ℕ → Answer × List ℤ
 unfolding addVerdict passesOf
-addOf how dst stride cs txtp tx depth = ends (addVerdict (how .refuses) dst stride cs txtp tx depth) dst (added dst stride cs txtp tx depth)
+addOf how dst stride cs txtp tx depth = ends (addVerdict (how .refuses) dst stride cs txtp tx depth) dst (added (how .rowwise) dst stride cs txtp tx depth)
 
 -- ---- the float call: an output of room numbers, count coefficients, known predictions, each row w apart
 abbrev pub onBuffers : ℕ → ℕ → ℕ → ℕ → ℕ → Answer → Answer
@@ -139,14 +151,14 @@ abbrev pub filledBy : ℕ → ℕ → ℕ → (ℕ → ℕ → ℤ) → List Flo
 filledBy w h depth R out pred =
     tab (length out) (λ i. cond (inBlock w w h i) (pixelF (pixelOf depth (getD pred i (pos 0)) (R (i / w) (i % w)))) (getD out i (pixelF (pos 0))))
 
-abbrev pub filled : List Float → List ℤ → ℕ → ℕ → ℕ → List ℤ → List Float
-filled out cs txtp tx depth pred = filledBy (wOf tx) (hOf tx) depth (residualAt tx txtp depth cs) out pred
+abbrev pub filled : Bool → List Float → List ℤ → ℕ → ℕ → ℕ → List ℤ → List Float
+filled rowwise out cs txtp tx depth pred = filledBy (wOf tx) (hOf tx) depth (residualAt rowwise tx txtp depth cs) out pred
 
 unfoldable pub floatOf : Reading → List Float → List ℤ → ℕ → ℕ → ℕ → List ℤ → Answer × List Float
 unfolding floatVerdict passesOf pixelF
-floatOf how out cs txtp tx depth pred = ends (floatVerdict (how .refuses) (length out) cs txtp tx depth pred) out (filled out cs txtp tx depth pred)
+floatOf how out cs txtp tx depth pred = ends (floatVerdict (how .refuses) (length out) cs txtp tx depth pred) out (filled (how .rowwise) out cs txtp tx depth pred)
 
 -- number i of the block is finite, not negative, and in size the pixel over 1
-abbrev pub Exact : List Float → List ℤ → ℕ → ℕ → ℕ → List ℤ → Type 0
-Exact out cs txtp tx depth pred =
-    (i : ℕ) → i < hOf tx * wOf tx → HasValue (getD out i (pixelF (pos 0))) false (natAbs (pixelOf depth (getD pred i (pos 0)) (residualAt tx txtp depth cs (i / wOf tx) (i % wOf tx)))) 1
+abbrev pub Exact : Reading → List Float → List ℤ → ℕ → ℕ → ℕ → List ℤ → Type 0
+Exact how out cs txtp tx depth pred =
+    (i : ℕ) → i < hOf tx * wOf tx → HasValue (getD out i (pixelF (pos 0))) false (natAbs (pixelOf depth (getD pred i (pos 0)) (residualAt (how .rowwise) tx txtp depth cs (i / wOf tx) (i % wOf tx)))) 1

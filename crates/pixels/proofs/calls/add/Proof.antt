@@ -47,7 +47,7 @@ returns c =
     let s = j .before .before in
     let a = addVerdict (s .args .form .strict) (s .args .dst .now) (s .args .stride) (s .args .coeff .now) (s .args .txtp) (s .args .tx) (s .args .bd) in
     ap (λ (z : Answer). (z, s .args .dst .now)) (j .judge-add .ensures)
-    ∙ sym (kept a (s .args .dst .now) (added (s .args .dst .now) (s .args .stride) (s .args .coeff .now) (s .args .txtp) (s .args .tx) (s .args .bd)) (λ e. c .if1 .taken (ap (λ (z : Answer). z .number) (j .judge-add .ensures) ∙ e)))
+    ∙ sym (kept a (s .args .dst .now) (added (s .args .form .rowwise) (s .args .dst .now) (s .args .stride) (s .args .coeff .now) (s .args .txtp) (s .args .tx) (s .args .bd)) (λ e. c .if1 .taken (ap (λ (z : Answer). z .number) (j .judge-add .ensures) ∙ e)))
 
 slice-aggregate-residuals : tie.Need-slice-aggregate-residuals
 slice-aggregate-residuals c = search needs
@@ -71,7 +71,7 @@ add-block-requires c κs =
     let l = sides (s .args .tx) (p .0 .size) in
     subst (λ (q : Size). Asked (q .w) (q .h) (s .args .stride) (s .args .bd) (s .args .dst .now) (r .residuals .last .0)) (sym (z .size-of .ensures)) (
       (l, p .0 .to, p .1 .fits .wide, last-row (hOf (s .args .tx)) (s .args .stride) (wOf (s .args .tx)) (length (s .args .dst .now)) (p .1 .fits .reach), p .1 .all .samples),
-      (N.le-trans (area (hOf (s .args .tx)) (wOf (s .args .tx)) refl refl) (omega (arith, r .residuals .kept .0)), residual-bounded (s .args .tx) (s .args .txtp) (s .args .bd) (s .args .coeff .now) (r .residuals .last .0) (r .residuals .ensures) (p .0 .to)),
+      (N.le-trans (area (hOf (s .args .tx)) (wOf (s .args .tx)) refl refl) (omega (arith, r .residuals .kept .0)), residual-bounded (s .args .form .rowwise) (s .args .tx) (s .args .txtp) (s .args .bd) (s .args .coeff .now) (r .residuals .last .0) (r .residuals .ensures) (p .0 .to)),
     )
 
 same-length-2 : tie.Need-same-length-2
@@ -90,12 +90,12 @@ returns-2 c =
     let a = addVerdict (s .args .form .strict) (s .args .dst .now) (s .args .stride) (s .args .coeff .now) (s .args .txtp) (s .args .tx) (s .args .bd) in
     let w = wOf (s .args .tx) in
     let h = hOf (s .args .tx) in
-    let made = added (s .args .dst .now) (s .args .stride) (s .args .coeff .now) (s .args .txtp) (s .args .tx) (s .args .bd) in
+    let made = added (s .args .form .rowwise) (s .args .dst .now) (s .args .stride) (s .args .coeff .now) (s .args .txtp) (s .args .tx) (s .args .bd) in
     ap (λ (t : List ℤ). (j .judge-add .result, t))
     (b .add-block .ensures ∙ ap (λ (q : Size). addedBy (q .w) (q .h) (s .args .bd) (repeated (q .w) (q .h) (gridOf (cut (q .w)) (r .residuals .last .0))) (s .args .dst .now) (s .args .stride)) (z .size-of .ensures)
     ∙ block-same (s .args .stride) w h (length (s .args .dst .now)) (λ i d. pixelOf (s .args .bd) (getD (s .args .dst .now) i (pos 0)) d) (λ i. getD (s .args .dst .now) i (pos 0))
-    (repeated w h (gridOf (cut w) (r .residuals .last .0))) (residualAt (s .args .tx) (s .args .txtp) (s .args .bd) (s .args .coeff .now))
-    (residual-served (s .args .tx) (s .args .txtp) (s .args .bd) (s .args .coeff .now) (r .residuals .last .0) (r .residuals .ensures) (sides (s .args .tx) (p .0 .size))))
+    (repeated w h (gridOf (cut w) (r .residuals .last .0))) (residualAt (s .args .form .rowwise) (s .args .tx) (s .args .txtp) (s .args .bd) (s .args .coeff .now))
+    (residual-served (s .args .form .rowwise) (s .args .tx) (s .args .txtp) (s .args .bd) (s .args .coeff .now) (r .residuals .last .0) (r .residuals .ensures) (sides (s .args .tx) (p .0 .size))))
     ∙ ap (λ (q : Answer). (q, made)) (j .judge-add .ensures)
     ∙ sym (taken a (s .args .dst .now) made (ap (λ (q : Answer). q .number) (sym (j .judge-add .ensures)) ∙ e .if1 .left))
 

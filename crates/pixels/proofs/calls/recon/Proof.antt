@@ -47,7 +47,7 @@ returns c =
     let s = j .before .before in
     let a = floatVerdict (s .args .form .strict) (length (s .args .out .now)) (s .args .coeff .now) (s .args .txtp) (s .args .tx) (s .args .bd) (s .args .pred .now) in
     let e = ap (λ (z : Answer). (z, s .args .out .now)) (j .judge-float .ensures)
-    ∙ sym (kept a (s .args .out .now) (filled (s .args .out .now) (s .args .coeff .now) (s .args .txtp) (s .args .tx) (s .args .bd) (s .args .pred .now)) (λ e. c .if1 .taken (ap (λ (z : Answer). z .number) (j .judge-float .ensures) ∙ e))) in
+    ∙ sym (kept a (s .args .out .now) (filled (s .args .form .rowwise) (s .args .out .now) (s .args .coeff .now) (s .args .txtp) (s .args .tx) (s .args .bd) (s .args .pred .now)) (λ e. c .if1 .taken (ap (λ (z : Answer). z .number) (j .judge-float .ensures) ∙ e))) in
     (e, exact-call (readingOf (s .args .form)) (s .args .out .now) (s .args .coeff .now) (s .args .txtp) (s .args .tx) (s .args .bd) (s .args .pred .now) (j .judge-float .result) (s .args .out .now) e)
 
 slice-aggregate-residuals : tie.Need-slice-aggregate-residuals
@@ -72,7 +72,7 @@ fill-block-requires c κs =
     let l = sides (s .args .tx) (p .0 .size) in
     subst (λ (q : Size). Asked (q .w) (q .h) (length (s .args .out .now)) (s .args .bd) (s .args .pred .now) (r .residuals .last .0)) (sym (z .size-of .ensures)) (
       (l, p .0 .to, p .1 .fits .space, p .1 .fits .known, p .1 .all .samples),
-      (N.le-trans (area (hOf (s .args .tx)) (wOf (s .args .tx)) refl refl) (omega (arith, r .residuals .kept .0)), residual-bounded (s .args .tx) (s .args .txtp) (s .args .bd) (s .args .coeff .now) (r .residuals .last .0) (r .residuals .ensures) (p .0 .to)),
+      (N.le-trans (area (hOf (s .args .tx)) (wOf (s .args .tx)) refl refl) (omega (arith, r .residuals .kept .0)), residual-bounded (s .args .form .rowwise) (s .args .tx) (s .args .txtp) (s .args .bd) (s .args .coeff .now) (r .residuals .last .0) (r .residuals .ensures) (p .0 .to)),
     )
 
 same-length : tie.Need-same-length
@@ -91,13 +91,13 @@ returns-2 c =
     let a = floatVerdict (s .args .form .strict) (length (s .args .out .now)) (s .args .coeff .now) (s .args .txtp) (s .args .tx) (s .args .bd) (s .args .pred .now) in
     let w = wOf (s .args .tx) in
     let h = hOf (s .args .tx) in
-    let made = filled (s .args .out .now) (s .args .coeff .now) (s .args .txtp) (s .args .tx) (s .args .bd) (s .args .pred .now) in
+    let made = filled (s .args .form .rowwise) (s .args .out .now) (s .args .coeff .now) (s .args .txtp) (s .args .tx) (s .args .bd) (s .args .pred .now) in
     let whole =
     ap (λ (t : List Float). (j .judge-float .result, t))
     (b .fill-block .ensures ∙ ap (λ (q : Size). filledBy (q .w) (q .h) (s .args .bd) (repeated (q .w) (q .h) (gridOf (cut (q .w)) (r .residuals .last .0))) (s .args .out .now) (s .args .pred .now)) (z .size-of .ensures)
     ∙ block-same w w h (length (s .args .out .now)) (λ i d. pixelF (pixelOf (s .args .bd) (getD (s .args .pred .now) i (pos 0)) d)) (λ i. getD (s .args .out .now) i (pixelF (pos 0)))
-    (repeated w h (gridOf (cut w) (r .residuals .last .0))) (residualAt (s .args .tx) (s .args .txtp) (s .args .bd) (s .args .coeff .now))
-    (residual-served (s .args .tx) (s .args .txtp) (s .args .bd) (s .args .coeff .now) (r .residuals .last .0) (r .residuals .ensures) (sides (s .args .tx) (p .0 .size))))
+    (repeated w h (gridOf (cut w) (r .residuals .last .0))) (residualAt (s .args .form .rowwise) (s .args .tx) (s .args .txtp) (s .args .bd) (s .args .coeff .now))
+    (residual-served (s .args .form .rowwise) (s .args .tx) (s .args .txtp) (s .args .bd) (s .args .coeff .now) (r .residuals .last .0) (r .residuals .ensures) (sides (s .args .tx) (p .0 .size))))
     ∙ ap (λ (q : Answer). (q, made)) (j .judge-float .ensures)
     ∙ sym (taken a (s .args .out .now) made (ap (λ (q : Answer). q .number) (sym (j .judge-float .ensures)) ∙ e .if1 .left)) in
     (whole, exact-call (readingOf (s .args .form)) (s .args .out .now) (s .args .coeff .now) (s .args .txtp) (s .args .tx) (s .args .bd) (s .args .pred .now) (j .judge-float .result) (b .fill-block .last .0) whole)

@@ -21,7 +21,7 @@ settle-requires c κs =
       s .pre .0,
       s .pre .1 .deep,
       omega (arith, s .pre .2, p .inv-txfm-passes .kept .0),
-      λ r x a b. subst (λ (z : ℤ). natAbs z ≤ 2 ^ 30) (sym (p .inv-txfm-passes .ensures r x a b)) (passes-size (s .args .tx) (s .args .txtp) (s .args .bd) (s .args .coeff .now) (s .pre .1) r x a b),
+      λ r x a b. subst (λ (z : ℤ). natAbs z ≤ 2 ^ 30) (sym (p .inv-txfm-passes .ensures r x a b)) (passes-size (s .args .rowwise) (s .args .tx) (s .args .txtp) (s .args .bd) (s .args .coeff .now) (s .pre .1) r x a b),
     )
 
 same-length : tie.Need-same-length
