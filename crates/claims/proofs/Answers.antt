@@ -1,8 +1,8 @@
 -- Every call answers every input: its promise is one equation with a definition that has a value everywhere. Of each call, over that definition:
 --     ..-keeps    a refused call leaves every lent slice as it was
 --     ..-one      two outcomes that the promise allows are the same
--- The add call and the float call promise the same with one lane and with four, and their pairs are stated for strict and clamped calls at once, so that the seven
--- pairs serve thirteen calls. From document 01, "Refusal numbers" and "How much each call owes", and document 02, section 5. Assumes nothing.
+-- The add call and the float call promise the same with one lane and with four, and their pairs are stated for every way of taking coefficients at once, so that the
+-- seven pairs serve seventeen calls. From document 01, "Refusal numbers" and "How much each call owes", and document 02, sections 1 and 5. Assumes nothing.
 use mathlib.Core.List.{List, map}
 use Prim.Native.Nat.{ℕ}
 use lib.Ieee

@@ -167,10 +167,11 @@ module _ (refuses : Bool) (w h depth : ℕ) (deep : depth ≤ 12) where
   numbers-passed cs p stride e =
       let n = cut w * cut h in
       let cell = cellOk (pos 0) (highest depth) p 0 stride w in
-      let a = search-passed 6 1 n (λ k. k) (seek (coeffOk refuses (scaled w h) depth cs) 0 n) (samples w h depth p stride) e in
+      let found = seek (coeffOk refuses (scaled w h) depth cs) 0 n in
+      let a = passed (leb n found) 6 1 _ (samples w h depth p stride) e in
       let b = search-passed 7 2 (h * w) (cellAt 0 stride w) (seek cell 0 (h * w)) done (a .1) in
       record {
-        coefficients = λ k l s. scalable-all refuses (scaled w h) depth deep cs k (seek-passed (coeffOk refuses (scaled w h) depth cs) n (a .0) k l) s;
+        coefficients = λ k l s. scalable-all refuses (scaled w h) depth deep cs k (seek-passed (coeffOk refuses (scaled w h) depth cs) n (leb-true n found (a .0)) k l) s;
         samples = λ r x l m. subst (λ (j : ℕ). natAbs (getD p j (pos 0)) ≤ 4096) (cell-place r m 0 stride ∙ ap (λ n. n + x) (N.zero-add (r * stride)))
             (in-range-size 4096 (pos 0) (highest depth) (getD p (cellAt 0 stride w (r * w + x)) (pos 0)) zero-le top (seek-passed cell (h * w) (b .0) (r * w + x) (cell-in l m (N.le-refl (h * w)))));
       }

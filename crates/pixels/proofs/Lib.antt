@@ -3,3 +3,4 @@ pub mod Floats
 pub mod Served
 pub mod Outcomes
 pub mod Strict
+pub mod Turned

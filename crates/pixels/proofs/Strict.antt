@@ -8,7 +8,7 @@ use mathlib.Core.List.{List}
 use Prim.Native.Nat.{ℕ, zero, suc, _+_, _*_, _≤_, _<_, zero-le}
 use native.Mathlib.Decide.{decLe}
 use native.Mathlib.Omega.{arith}
-use borrow.Author.Tests.{leb-false}
+use borrow.Author.Tests.{leb-true, leb-false, le-leb}
 use lib.Dec.{leb}
 use lib.Ieee
 use lib.Ieee.{Float}
@@ -19,7 +19,7 @@ use Rattle.whole.specs.Search.{seek, cellAt}
 use Rattle.whole.proofs.Search.{seek-found, seek-all, seek-passed}
 use Rattle.answers.specs.declared.Answer.{Answer}
 use Rattle.answers.specs.Answers.{done, refused, unless, ends}
-use Rattle.answers.proofs.Verdicts.{search-passed, search-opens, search-stops}
+use Rattle.answers.proofs.Verdicts.{passed, opens, search-stops}
 use Rattle.ranges.specs.Cells.{cellOk}
 use Rattle.tables.specs.Sizes.{cut, scaled}
 use Rattle.pixels.specs.Calls.{strict, clamped, wOf, hOf, coeffOk, FirstOutside, coefficients, samples, numbers, addFront, addVerdict, added, addOf, floatFront, floatVerdict, filled, floatOf}
@@ -63,9 +63,9 @@ module _ (w h depth : ℕ) (cs : List ℤ) (rest : Answer) where
 
   both-accept : depth ≤ 12 → coefficients true w h depth cs rest .number ≡ 0 → coefficients true w h depth cs rest ≡ coefficients false w h depth cs rest
   both-accept deep e =
-      let a = search-passed 6 1 count (λ k. k) (found true) rest e in
-      let all = seek-all (coeffOk false (scaled w h) depth cs) 0 count (λ k l. loosened deep (scaled w h) k (seek-passed (coeffOk true (scaled w h) depth cs) count (a .0) k (omega arith))) in
-      search-opens 7 1 count (λ k. k) (found true) rest (a .0) ∙ sym (search-opens 7 1 count (λ k. k) (found false) rest (omega (arith, all)))
+      let a = leb-true count (found true) (passed (leb count (found true)) 6 1 _ rest e .0) in
+      let all = seek-all (coeffOk false (scaled w h) depth cs) 0 count (λ k l. loosened deep (scaled w h) k (seek-passed (coeffOk true (scaled w h) depth cs) count a k (omega arith))) in
+      opens _ rest (le-leb count (found true) a) ∙ sym (opens _ rest (le-leb count (found false) (omega (arith, all))))
 
   seven : (k : ℕ) → FirstOutside depth count cs k → coefficients true w h depth cs rest ≡ refused 7 1 k
   seven k f =
