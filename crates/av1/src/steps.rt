@@ -10,7 +10,7 @@ ghost use Rattle.av1.specs.Room.{StepRoom, Program, Cosines, Rests};
 use answers::Answer;
 
 // The first number of the pair x, y turned by the angle of cosine c and sine s, both times 4096.
-fn turn_x(x: i32, y: i32, c: i32, s: i32) -> i32
+pub fn turn_x(x: i32, y: i32, c: i32, s: i32) -> i32
     requires { ⌜ (natAbs x ≤ 2 ^ 19) × (natAbs y ≤ 2 ^ 19) × (natAbs c ≤ 4096) × (natAbs s ≤ 4096) ⌝ }
     ensures { λ r. ⌜ r ≡ turnX c s x y ⌝ }
 {
@@ -19,7 +19,7 @@ fn turn_x(x: i32, y: i32, c: i32, s: i32) -> i32
 }
 
 // The second number.
-fn turn_y(x: i32, y: i32, c: i32, s: i32) -> i32
+pub fn turn_y(x: i32, y: i32, c: i32, s: i32) -> i32
     requires { ⌜ (natAbs x ≤ 2 ^ 19) × (natAbs y ≤ 2 ^ 19) × (natAbs c ≤ 4096) × (natAbs s ≤ 4096) ⌝ }
     ensures { λ r. ⌜ r ≡ turnY c s x y ⌝ }
 {
