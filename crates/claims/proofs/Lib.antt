@@ -3,6 +3,7 @@
 --     Slices     which slice each refusal names
 --     Pixels     one lane and four lanes, dense table products, each pixel
 --     Strict     coefficients out of range
+--     Orders     coefficients in row order and in column order
 --     Chroma     pair by pair, and how far a pair drifts that is turned back
 --     Wht        each transform undoes the other
 --     History    stepping back, and the wanted block
@@ -17,6 +18,7 @@ pub mod Answers
 pub mod Slices
 pub mod Pixels
 pub mod Strict
+pub mod Orders
 pub mod Chroma
 pub mod Wht
 pub mod History
