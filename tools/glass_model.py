@@ -38,13 +38,14 @@ SLICES = {
 Form = collections.namedtuple("Form", "counts named takes")
 
 FORMS = {
-    "screen": Form(range(3, 4), 3, "WIDTH HEIGHT DEPTH"),
+    "screen": Form(range(3, 5), 4, "WIDTH HEIGHT DEPTH and a pad or nothing"),
     "block": Form(range(4, MOST_NUMBERS + 1), 4, "ROW COLUMN SIZE TYPE and coefficients"),
     "change": Form(range(18, 19), 2, "ROW COLUMN and 16 samples"),
     "undo": Form(range(2), 1, "a count or nothing"),
     "show": Form(range(1), 0, "nothing"),
     "keep": Form(range(1), 0, "nothing"),
     "compare": Form(range(1), 0, "nothing"),
+    "pad": Form(range(1), 0, "nothing"),
 }
 
 WORD = re.compile(rb"[^ \t\r]+")
@@ -102,14 +103,25 @@ class Glass:
             raise Bad("no screen yet")
         return getattr(self, name)(*numbers)
 
-    def screen(self, width, height, depth):
+    def screen(self, width, height, depth, pad=0):
         if not (4 <= width <= 256 and 4 <= height <= 256 and 8 <= depth <= 12):
             raise Bad("sides are 4 to 256, depth 8 to 12")
-        self.width, self.height, self.depth = width, height, depth
-        self.plane = [2 ** (depth - 1)] * (width * height)
+        if pad > 64:
+            raise Bad("a pad is 0 to 64")
+        self.stride, self.width, self.height, self.depth = width + pad, width, height, depth
+        self.plane = [2 ** (depth - 1)] * (self.stride * height)
+        for at in self.pads():
+            self.plane[at] = at % 256
         self.steps = []
         self.kept = None
-        return [f"screen of {width} by {height}, depth {depth}"]
+        return [f"screen of {width} by {height}, depth {depth}" + (f", pad {pad}" if pad else "")]
+
+    def pads(self):
+        """The places of the pad; each holds its number modulo 256 at the start."""
+        return [at for at in range(self.stride * self.height) if at % self.stride >= self.width]
+
+    def place(self, words, at):
+        return f"{words} at row {at // self.stride}, column {at % self.stride}"
 
     def inside(self, row, column, width, height):
         return column + width <= self.width and row + height <= self.height
@@ -119,9 +131,9 @@ class Glass:
         count = model.used(size)[0] if known else len(coefficients)
         if len(coefficients) > count:
             raise Bad(f"the block has {count} coefficients")
-        start = row * self.width + column
+        start = row * self.stride + column
         slices = [[*coefficients, *[0] * (count - len(coefficients))], self.plane[start:]]
-        answer, after = self.outcome(Case(3, [self.depth, size, type, self.width], slices))
+        answer, after = self.outcome(Case(3, [self.depth, size, type, self.stride], slices))
         if known and not 1 <= answer.number <= 5 and not self.inside(row, column, *model.width_and_height(size)):
             answer = NO_SAMPLES
         if answer == model.DONE:
@@ -130,7 +142,7 @@ class Glass:
         return [f"block at row {row}, column {column}: {'done' if answer == model.DONE else refused(answer)}"]
 
     def step(self, call, step):
-        arguments = [self.depth, self.width, self.width, step.row, step.column]
+        arguments = [self.depth, self.stride, self.width, step.row, step.column]
         answer, after = self.outcome(Case(call, arguments, [step.levels, self.plane]))
         self.plane = after.slices[1]
         return answer
@@ -144,7 +156,7 @@ class Glass:
             raise Bad("no room for another step")
         answer = NO_SAMPLES
         if self.inside(row, column, 4, 4):
-            present = [self.plane[at] for at in model.places(self.width, row, column)]
+            present = [self.plane[at] for at in model.places(self.stride, row, column)]
             difference = [s - p for s, p in zip(samples, present)]
             step = Step(row, column, self.outcome(Case(6, [], [difference, [0] * 16]))[1].slices[1])
             answer = self.step(8, step)
@@ -171,7 +183,7 @@ class Glass:
 
     def picture(self):
         lines = ["", "P2", f"{self.width} {self.height}", str(2**self.depth - 1)]
-        for at in range(0, len(self.plane), self.width):
+        for at in range(0, len(self.plane), self.stride):
             row = [f" {sample}" for sample in self.plane[at : at + self.width]]
             lines += ["".join(row[x : x + 14]) for x in range(0, self.width, 14)]
         return "\n".join(lines)
@@ -185,8 +197,12 @@ class Glass:
             raise Bad("nothing kept")
         for at, (now, then) in enumerate(zip(self.plane, self.kept)):
             if now != then:
-                return [f"compare: first differs at row {at // self.width}, column {at % self.width}"]
+                return [self.place("compare: first differs", at)]
         return ["compare: equal"]
+
+    def pad(self):
+        touched = [at for at in self.pads() if self.plane[at] != at % 256]
+        return [self.place("pad: first touched", touched[0]) if touched else "pad: untouched"]
 
 
 def answer(script, glass=None):

@@ -38,39 +38,39 @@ pub step-same : (d t w : ℕ) {r r′ c c′ : ℕ} {l l′ : List ℤ} → r �
 step-same d t w {r′ = r′} {c} {c′ = c′} {l} e f g =
     ap (λ r. attempt d t w r c l) e ∙ ap (λ c. attempt d t w r′ c l) f ∙ ap (λ l. attempt d t w r′ c′ l) g
 
-pub gap : {p : List ℤ} {start width : ℕ} {b : List ℤ} → Near p start width b → (k : ℕ) → k < 16
-    → Num (toZ w32 (ofZ w32 (numbers b k)) -ℤ toZ w32 (ofZ w32 (numbers p (cellAt start width 4 k)))) (numbers b k -ℤ numbers p (cellAt start width 4 k)) (4095 + 4095)
-gap {p} {start} {width} {b} n k h =
-    minus (made w32 {z = numbers b k} (n .wanted k h) (lit< tt)) (made w32 {z = numbers p (cellAt start width 4 k)} (n .present k h) (lit< tt))
+pub gap : {p : List ℤ} {start stride : ℕ} {b : List ℤ} → Near p start stride b → (k : ℕ) → k < 16
+    → Num (toZ w32 (ofZ w32 (numbers b k)) -ℤ toZ w32 (ofZ w32 (numbers p (cellAt start stride 4 k)))) (numbers b k -ℤ numbers p (cellAt start stride 4 k)) (4095 + 4095)
+gap {p} {start} {stride} {b} n k h =
+    minus (made w32 {z = numbers b k} (n .wanted k h) (lit< tt)) (made w32 {z = numbers p (cellAt start stride 4 k)} (n .present k h) (lit< tt))
 
-pub gaps-small : {p : List ℤ} {start width : ℕ} {b : List ℤ} → Near p start width b → Sixteen 65535 (gapsOf p start width b)
-gaps-small {p} {start} {width} {b} n =
-    record { count = refl; small = within-tab 65535 16 (λ k. numbers b k -ℤ numbers p (cellAt start width 4 k)) (λ k h. le-trans (gap n k h .size) (lit≤ tt)) }
+pub gaps-small : {p : List ℤ} {start stride : ℕ} {b : List ℤ} → Near p start stride b → Sixteen 65535 (gapsOf p start stride b)
+gaps-small {p} {start} {stride} {b} n =
+    record { count = refl; small = within-tab 65535 16 (λ k. numbers b k -ℤ numbers p (cellAt start stride 4 k)) (λ k h. le-trans (gap n k h .size) (lit≤ tt)) }
 
-module _ (depth width height row column : ℕ) (p b l : List ℤ) where
+module _ (depth stride width height row column : ℕ) (p b l : List ℤ) where
   -- where the search for a bad sample ends
   abbrev pub found : ℕ
-  found = seek (cellOk (pos 0) (highest depth) p (row * width + column) width 4) 0 16
+  found = seek (cellOk (pos 0) (highest depth) p (row * stride + column) stride 4) 0 16
 
-  pub levels-off : standsOf width height row column 4 4 ≡ false → l ≡ levelsTo depth width height row column p b l
+  pub levels-off : standsOf width height row column 4 4 ≡ false → l ≡ levelsTo depth stride width height row column p b l
   unfolding levelsTo
   levels-off e = rw e
 
-  pub levels-bad : standsOf width height row column 4 4 ≡ true → found < 16 → l ≡ levelsTo depth width height row column p b l
+  pub levels-bad : standsOf width height row column 4 4 ≡ true → found < 16 → l ≡ levelsTo depth stride width height row column p b l
   unfolding levelsTo
   levels-bad e h = rw (e, lt-leb 16 found h)
 
-  pub levels-new : standsOf width height row column 4 4 ≡ true → 16 ≤ found → fwht (difference p (place depth width width row column) b) ≡ levelsTo depth width height row column p b l
+  pub levels-new : standsOf width height row column 4 4 ≡ true → 16 ≤ found → fwht (difference p (place depth stride width row column) b) ≡ levelsTo depth stride width height row column p b l
   unfolding levelsTo
   levels-new e h = rw (e, le-leb 16 found h)
 
 -- an entry with new levels
-pub entry-new : (depth width height : ℕ) {r c : ℕ} (p b e ls : List ℤ) {l : List ℤ} → r ≡ natural (numbers e 0) → c ≡ natural (numbers e 1) → l ≡ drop 2 e
-    → ls ≡ levelsTo depth width height r c p b l → take 2 e ++ ls ≡ entryTo depth width height p b e
-entry-new depth width height {r} {c} p b e ls {l} x y z q =
+pub entry-new : (depth stride width height : ℕ) {r c : ℕ} (p b e ls : List ℤ) {l : List ℤ} → r ≡ natural (numbers e 0) → c ≡ natural (numbers e 1) → l ≡ drop 2 e
+    → ls ≡ levelsTo depth stride width height r c p b l → take 2 e ++ ls ≡ entryTo depth stride width height p b e
+entry-new depth stride width height {r} {c} p b e ls {l} x y z q =
     ap (λ t. take 2 e ++ t)
-    (q ∙ ap (λ r. levelsTo depth width height r c p b l) x ∙ ap (λ c. levelsTo depth width height (natural (numbers e 0)) c p b l) y
-    ∙ ap (levelsTo depth width height (natural (numbers e 0)) (natural (numbers e 1)) p b) z)
+    (q ∙ ap (λ r. levelsTo depth stride width height r c p b l) x ∙ ap (λ c. levelsTo depth stride width height (natural (numbers e 0)) c p b l) y
+    ∙ ap (levelsTo depth stride width height (natural (numbers e 0)) (natural (numbers e 1)) p b) z)
 
 -- the row and the column of an entry whose levels were lent and are back
 pub heads-kept : (e ls : List ℤ) → length e ≡ 18 → length ls ≡ length (take (length e - 2) (drop 2 e)) → (j : ℕ) → j < 2

@@ -54,32 +54,33 @@ block-fits width height row column w h c r =
     let t : height * width ≡ width * height = N.mul-comm height width in
     omega arith
 
-pub possible-is : (w h d : ℕ) → possibleOf w h d ≡ true → (w ≤ 256) × (h ≤ 256) × (8 ≤ d) × (d ≤ 12)
+pub possible-is : (w h d : ℕ) → possibleOf w h d ≡ true → (4 ≤ w) × (w ≤ 256) × (h ≤ 256) × (8 ≤ d) × (d ≤ 12)
 possible-is w h d e =
     let p = both (leb 4 w && leb w 256) ((leb 4 h && leb h 256) && (leb 8 d && leb d 12)) e in
     let q = both (leb 4 h && leb h 256) (leb 8 d && leb d 12) (p .1) in
     let r = both (leb 8 d) (leb d 12) (q .1) in
-    (leb-true w 256 (both (leb 4 w) (leb w 256) (p .0) .1), leb-true h 256 (both (leb 4 h) (leb h 256) (q .0) .1), leb-true 8 d (r .0), leb-true d 12 (r .1))
+    let s = both (leb 4 w) (leb w 256) (p .0) in
+    (leb-true 4 w (s .0), leb-true w 256 (s .1), leb-true h 256 (both (leb 4 h) (leb h 256) (q .0) .1), leb-true 8 d (r .0), leb-true d 12 (r .1))
 
 -- the samples of a screen fit their room
-pub few-samples : {w h n : ℕ} → w ≤ 256 → h ≤ 256 → 65536 ≤ n → w * h ≤ n
+pub few-samples : {w h n : ℕ} → w ≤ 320 → h ≤ 256 → 81920 ≤ n → w * h ≤ n
 few-samples a b c = N.le-trans (N.mul-le-mul a b) c
 
 -- what is lent of a room: the samples of a screen
-pub screen-part : {w h : ℕ} (l : List ℤ) → w ≤ 256 → h ≤ 256 → 65536 ≤ length l → length (take (w * h) l) ≡ w * h
+pub screen-part : {w h : ℕ} (l : List ℤ) → w ≤ 320 → h ≤ 256 → 81920 ≤ length l → length (take (w * h) l) ≡ w * h
 screen-part {w} {h} l a b c = length-take-le (w * h) l (few-samples a b c)
 
-pub few-fits : {w h : ℕ} → w ≤ 256 → h ≤ 256 → Fits w64 (w * h)
+pub few-fits : {w h : ℕ} → w ≤ 320 → h ≤ 256 → Fits w64 (w * h)
 few-fits a b = record { fits = omega (arith, N.mul-le-mul a b) }
 
-pub block-same : (p : List ℤ) (w h d : ℕ) {r r′ c c′ t t′ x x′ : ℕ} {l l′ : List ℤ} → r ≡ r′ → c ≡ c′ → l ≡ l′ → t ≡ t′ → x ≡ x′
-    → blockOf p w h r c l t x d ≡ blockOf p w h r′ c′ l′ t′ x′ d
-block-same p w h d {r′ = r′} {c} {c′ = c′} {t} {t′ = t′} {x} {l = l} {l′ = l′} er ec el et ex =
-    ap (λ r. blockOf p w h r c l t x d) er
-    ∙ ap (λ c. blockOf p w h r′ c l t x d) ec
-    ∙ ap (λ l. blockOf p w h r′ c′ l t x d) el
-    ∙ ap (λ t. blockOf p w h r′ c′ l′ t x d) et
-    ∙ ap (λ x. blockOf p w h r′ c′ l′ t′ x d) ex
+pub block-same : (p : List ℤ) (t w h d : ℕ) {r r′ c c′ y y′ x x′ : ℕ} {l l′ : List ℤ} → r ≡ r′ → c ≡ c′ → l ≡ l′ → y ≡ y′ → x ≡ x′
+    → blockOf p t w h r c l y x d ≡ blockOf p t w h r′ c′ l′ y′ x′ d
+block-same p t w h d {r′ = r′} {c} {c′ = c′} {y} {y′ = y′} {x} {l = l} {l′ = l′} er ec el et ex =
+    ap (λ r. blockOf p t w h r c l y x d) er
+    ∙ ap (λ c. blockOf p t w h r′ c l y x d) ec
+    ∙ ap (λ l. blockOf p t w h r′ c′ l y x d) el
+    ∙ ap (λ y. blockOf p t w h r′ c′ l′ y x d) et
+    ∙ ap (λ x. blockOf p t w h r′ c′ l′ y′ x d) ex
 
 pub same-bits : {x y : ℤ} → SFits w32 x → SFits w32 y → ofZ w32 x ≡ ofZ w32 y → x ≡ y
 same-bits {x} {y} f g e = sym (toZ-ofZ w32 x f) ∙ ap (toZ w32) e ∙ toZ-ofZ w32 y g

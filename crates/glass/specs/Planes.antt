@@ -1,6 +1,9 @@
--- The samples of a screen: rows of width, one after another. Definitions only.
+-- The samples of a screen: lines of stride, one after another, of which the first width are visible and the others are the pad. Definitions only;
+-- the pad is that of document 02, section 2.
 --     natural z                          z, or 0 where it is negative
 --     standsOf, blockStands              whether a block of w by h, or of a size number, stands on a screen
+--     mark, freshOf                      the mark that sample i of the pad has at the start; the sample i of a new plane whose visible ones are z
+--     marked                             a plane with the marks of the start in its pad
 --     blockOf                            an AV2 block added at a row and column: the answer, and the plane as it is left.
 --                                        A block that leaves the screen is answered as on a plane of no sample
 --     onRoom n room r                    a call on the first n samples of a room: its answer, and the room as it is left
@@ -9,13 +12,14 @@
 use mathlib.Core.Path.{_≡_}
 use mathlib.Core.Bool.{Bool, _&&_, cond}
 use mathlib.Core.List.{List, [], _++_}
-use Prim.Native.Nat.{ℕ, _+_, _*_, _<_}
+use Prim.Native.Nat.{ℕ, _+_, _*_, _%_, _<_}
 use lib.Dec.{leb}
 use lib.IntN.{ℤ, pos, negsuc}
 use lib.ListN.{length, getD, take, drop}
 use Rattle.answers.specs.declared.Answer.{Answer}
+use Rattle.whole.specs.Sums.{tab}
 use Rattle.lossless.specs.Gains.{numbers}
-use Rattle.pixels.specs.Calls.{wOf, hOf, addOf}
+use Rattle.pixels.specs.Calls.{strict, wOf, hOf, addOf}
 
 abbrev pub natural : ℤ → ℕ
 natural (pos n) = n
@@ -31,20 +35,30 @@ blockStands width height row column tx = leb tx 24 && standsOf width height row 
 abbrev pub fromOn : ℕ → List ℤ → Answer × List ℤ → Answer × List ℤ
 fromOn start p r = (r .0, take start p ++ r .1)
 
-unfoldable pub blockOf : List ℤ → ℕ → ℕ → ℕ → ℕ → List ℤ → ℕ → ℕ → ℕ → Answer × List ℤ
-blockOf p width height row column cs txtp tx depth =
+-- another unit's marks: neighbours differ, and each could be a sample
+abbrev pub mark : ℕ → ℤ
+mark i = pos (i % 256)
+
+abbrev pub freshOf : ℕ → ℕ → ℤ → ℕ → ℤ
+freshOf stride width z i = cond (leb width (i % stride)) (mark i) z
+
+abbrev pub marked : ℕ → ℕ → List ℤ → List ℤ
+marked stride width p = tab (length p) (λ i. freshOf stride width (numbers p i) i)
+
+unfoldable pub blockOf : List ℤ → ℕ → ℕ → ℕ → ℕ → ℕ → List ℤ → ℕ → ℕ → ℕ → Answer × List ℤ
+blockOf p stride width height row column cs txtp tx depth =
     cond (blockStands width height row column tx)
-    (fromOn (row * width + column) p (addOf (drop (row * width + column) p) width cs txtp tx depth))
-    (addOf [] width cs txtp tx depth .0, p)
+    (fromOn (row * stride + column) p (addOf strict (drop (row * stride + column) p) stride cs txtp tx depth))
+    (addOf strict [] stride cs txtp tx depth .0, p)
 
 -- a call on the first n samples of a room
 abbrev pub onRoom : ℕ → List ℤ → Answer × List ℤ → Answer × List ℤ
 onRoom n room r = (r .0, r .1 ++ drop n room)
 
-abbrev pub drawnOf : ℕ → ℕ → ℕ → List ℤ → List ℤ → Answer × List ℤ
-drawnOf width height depth list room =
-    onRoom (width * height) room
-    (blockOf (take (width * height) room) width height (natural (numbers list 0)) (natural (numbers list 1)) (drop 4 list) (natural (numbers list 3)) (natural (numbers list 2)) depth)
+abbrev pub drawnOf : ℕ → ℕ → ℕ → ℕ → List ℤ → List ℤ → Answer × List ℤ
+drawnOf stride width height depth list room =
+    onRoom (stride * height) room
+    (blockOf (take (stride * height) room) stride width height (natural (numbers list 0)) (natural (numbers list 1)) (drop 4 list) (natural (numbers list 3)) (natural (numbers list 2)) depth)
 
 pub record Differ (r : ℕ) (a b : List ℤ) : Type 0 where
   pub before : (k : ℕ) → k < r → getD a k (pos 0) ≡ getD b k (pos 0)

@@ -1,5 +1,5 @@
 -- Changes into wanted blocks, and the steps that are remembered. An entry is 18 numbers: a row, a column and sixteen levels. Definitions only.
---     stepIn depth width e      the step of an entry
+--     stepIn depth stride width e      the step of an entry
 --     ready                     whether a 4x4 block stands on the screen and its samples are in range
 --     levelsTo                  where it is, the forward transform of the wanted samples less the present ones; else the levels that were there
 --     entryTo                   an entry with these levels
@@ -25,45 +25,45 @@ use Rattle.lossless.specs.Step.{Step, place, attempt, stepOf, undoOf}
 use Rattle.lossless.specs.Wanted.{difference}
 use Rattle.glass.specs.Planes.{natural, standsOf, onRoom}
 
-abbrev pub stepIn : ℕ → ℕ → List ℤ → Step
-stepIn depth width e = attempt depth width width (natural (numbers e 0)) (natural (numbers e 1)) (drop 2 e)
+abbrev pub stepIn : ℕ → ℕ → ℕ → List ℤ → Step
+stepIn depth stride width e = attempt depth stride width (natural (numbers e 0)) (natural (numbers e 1)) (drop 2 e)
 
-abbrev pub ready : ℕ → ℕ → ℕ → ℕ → ℕ → List ℤ → Bool
-ready depth width height row column p =
-    standsOf width height row column 4 4 && leb 16 (seek (cellOk (pos 0) (highest depth) p (row * width + column) width 4) 0 16)
+abbrev pub ready : ℕ → ℕ → ℕ → ℕ → ℕ → ℕ → List ℤ → Bool
+ready depth stride width height row column p =
+    standsOf width height row column 4 4 && leb 16 (seek (cellOk (pos 0) (highest depth) p (row * stride + column) stride 4) 0 16)
 
-unfoldable pub levelsTo : ℕ → ℕ → ℕ → ℕ → ℕ → List ℤ → List ℤ → List ℤ → List ℤ
+unfoldable pub levelsTo : ℕ → ℕ → ℕ → ℕ → ℕ → ℕ → List ℤ → List ℤ → List ℤ → List ℤ
 unfolding seek
-levelsTo depth width height row column p b l =
-    cond (ready depth width height row column p) (fwht (difference p (place depth width width row column) b)) l
+levelsTo depth stride width height row column p b l =
+    cond (ready depth stride width height row column p) (fwht (difference p (place depth stride width row column) b)) l
 
 abbrev pub gapsOf : List ℤ → ℕ → ℕ → List ℤ → List ℤ
-gapsOf p start width b = tab 16 (λ k. numbers b k -ℤ numbers p (cellAt start width 4 k))
+gapsOf p start stride b = tab 16 (λ k. numbers b k -ℤ numbers p (cellAt start stride 4 k))
 
-pub record Near (p : List ℤ) (start width : ℕ) (b : List ℤ) : Type 0 where
+pub record Near (p : List ℤ) (start stride : ℕ) (b : List ℤ) : Type 0 where
   pub count : length b ≡ 16
   pub wanted : (k : ℕ) → k < 16 → natAbs (numbers b k) ≤ 4095
-  pub present : (k : ℕ) → k < 16 → natAbs (numbers p (cellAt start width 4 k)) ≤ 4095
+  pub present : (k : ℕ) → k < 16 → natAbs (numbers p (cellAt start stride 4 k)) ≤ 4095
 
 -- a step on the first samples of a room
-abbrev pub steppedOf : ℕ → ℕ → ℕ → List ℤ → List ℤ → Answer × List ℤ
-steppedOf width height depth e room = onRoom (width * height) room (stepOf (take (width * height) room) (stepIn depth width e))
+abbrev pub steppedOf : ℕ → ℕ → ℕ → ℕ → List ℤ → List ℤ → Answer × List ℤ
+steppedOf stride width height depth e room = onRoom (stride * height) room (stepOf (take (stride * height) room) (stepIn depth stride width e))
 
 -- the same, taken back
-abbrev pub backOf : ℕ → ℕ → ℕ → List ℤ → List ℤ → Answer × List ℤ
-backOf width height depth e room = onRoom (width * height) room (undoOf (take (width * height) room) (stepIn depth width e))
+abbrev pub backOf : ℕ → ℕ → ℕ → ℕ → List ℤ → List ℤ → Answer × List ℤ
+backOf stride width height depth e room = onRoom (stride * height) room (undoOf (take (stride * height) room) (stepIn depth stride width e))
 
-abbrev pub entryTo : ℕ → ℕ → ℕ → List ℤ → List ℤ → List ℤ → List ℤ
-entryTo depth width height p b e =
-    take 2 e ++ levelsTo depth width height (natural (numbers e 0)) (natural (numbers e 1)) p b (drop 2 e)
+abbrev pub entryTo : ℕ → ℕ → ℕ → ℕ → List ℤ → List ℤ → List ℤ → List ℤ
+entryTo depth stride width height p b e =
+    take 2 e ++ levelsTo depth stride width height (natural (numbers e 0)) (natural (numbers e 1)) p b (drop 2 e)
 
 -- the entry of step k
 abbrev pub entryAt : List ℤ → ℕ → List ℤ
 entryAt past k = take 18 (drop (18 * k) past)
 
-abbrev pub recorded : ℕ → ℕ → List ℤ → ℕ → List Step
-recorded depth width past zero = []
-recorded depth width past (suc k) = stepIn depth width (entryAt past k) ∷ recorded depth width past k
+abbrev pub recorded : ℕ → ℕ → ℕ → List ℤ → ℕ → List Step
+recorded depth stride width past zero = []
+recorded depth stride width past (suc k) = stepIn depth stride width (entryAt past k) ∷ recorded depth stride width past k
 
 -- past, with an entry put in place of that of step k
 pub record Remembers (k : ℕ) (e past past′ : List ℤ) : Type 0 where

@@ -16,8 +16,9 @@ use crate::steps;
 use kernels::sums::copy;
 use lossless::front::between;
 
-// A screen; one of width 0 is none.
+// A screen; one of stride 0 is none.
 pub struct Screen {
+    pub stride: usize, // The samples of a line: the visible ones, and the pad.
     pub width: usize,
     pub height: usize,
     pub depth: u32,
@@ -27,9 +28,10 @@ pub struct Screen {
 
 // A screen with other steps.
 fn with_steps(s: Screen, steps: usize) -> Screen
-    ensures { λ r. ⌜ (r .width ≡ s .width) × (r .height ≡ s .height) × (r .depth ≡ s .depth) × (r .steps ≡ steps) ⌝ }
+    ensures { λ r. ⌜ (r .width ≡ s .width) × (r .height ≡ s .height) × (r .depth ≡ s .depth) × (r .steps ≡ steps) × (r .stride ≡ s .stride) ⌝ }
 {
     Screen {
+        stride: s.stride,
         width: s.width,
         height: s.height,
         depth: s.depth,
@@ -60,7 +62,7 @@ fn grey(depth: usize) -> i32
 }
 
 // The event of a new screen.
-fn say_screen(line: usize, width: usize, height: usize, depth: usize) {
+fn say_screen(line: usize, width: usize, height: usize, depth: usize, pad: usize) {
     say::start(line);
     say::text(b"screen of ");
     say::number(width);
@@ -68,18 +70,31 @@ fn say_screen(line: usize, width: usize, height: usize, depth: usize) {
     say::number(height);
     say::text(b", depth ");
     say::number(depth);
+    if 0 < pad {
+        say::text(b", pad ");
+        say::number(pad);
+    }
     say::text(b"\n");
 }
 
-// A new screen, all of the middle grey.
-fn new_screen(line: usize, width: usize, height: usize, depth: usize, room: &mut [i32]) -> Screen
-    requires { ⌜ (width ≤ 256) × (height ≤ 256) × (8 ≤ depth) × (depth ≤ 12) × (65536 ≤ length (now room)) ⌝ }
+// A new screen, all of the middle grey, and its pad.
+fn new_screen(
+    line: usize,
+    width: usize,
+    height: usize,
+    depth: usize,
+    pad: usize,
+    room: &mut [i32],
+) -> Screen
+    requires { ⌜ (4 ≤ width) × (width ≤ 256) × (height ≤ 256) × (8 ≤ depth) × (depth ≤ 12) × (pad ≤ 64) × (81920 ≤ length (now room)) ⌝ }
     ensures { λ r. ⌜ Sound r × (r .steps ≡ 0) ⌝ }
 {
-    let n = width * height;
-    plane::fill(&mut room[..n], grey(depth));
-    say_screen(line, width, height, depth);
+    let stride = width + pad;
+    let n = stride * height;
+    plane::blank(&mut room[..n], stride, width, grey(depth));
+    say_screen(line, width, height, depth, pad);
     Screen {
+        stride,
         width,
         height,
         depth: depth as u32,
@@ -88,9 +103,19 @@ fn new_screen(line: usize, width: usize, height: usize, depth: usize, room: &mut
     }
 }
 
+// The pad of a new screen: none, if its line doesn't say.
+fn pad_of(list: &[i32], count: usize) -> usize
+    requires { ⌜ 1028 ≤ length (now list) ⌝ }
+{
+    if count == 3 {
+        return 0;
+    }
+    natural(list[3])
+}
+
 // A new screen, if there can be one.
-pub fn begin(line: usize, s: Screen, list: &[i32], room: &mut [i32]) -> Screen
-    requires { ⌜ Sound s × (1028 ≤ length (now list)) × (65536 ≤ length (now room)) ⌝ }
+pub fn begin(line: usize, s: Screen, list: &[i32], count: usize, room: &mut [i32]) -> Screen
+    requires { ⌜ Sound s × (1028 ≤ length (now list)) × (81920 ≤ length (now room)) ⌝ }
     ensures { λ r. ⌜ Sound r × Onward s r (now (room .entry)) (now (room .exit)) ⌝ }
 {
     let width = natural(list[0]);
@@ -100,7 +125,12 @@ pub fn begin(line: usize, s: Screen, list: &[i32], room: &mut [i32]) -> Screen
         say::error(line, b"sides are 4 to 256, depth 8 to 12");
         return s;
     }
-    new_screen(line, width, height, depth, room)
+    let pad = pad_of(list, count);
+    if 64 < pad {
+        say::error(line, b"a pad is 0 to 64");
+        return s;
+    }
+    new_screen(line, width, height, depth, pad, room)
 }
 
 // How many coefficients a block has; as many as any, where there is no such size.
@@ -116,7 +146,7 @@ fn coefficients(tx: usize) -> usize
 
 // An AV2 block.
 pub fn block(line: usize, s: Screen, list: &mut [i32], count: usize, room: &mut [i32]) -> Screen
-    requires { ⌜ Sound s × (1028 ≤ length (now list)) × (count ≤ length (now list)) × (65536 ≤ length (now room)) ⌝ }
+    requires { ⌜ Sound s × (1028 ≤ length (now list)) × (count ≤ length (now list)) × (81920 ≤ length (now room)) ⌝ }
     ensures { λ r. ⌜ Sound r × Onward s r (now (room .entry)) (now (room .exit)) ⌝ }
 {
     let most = coefficients(natural(list[2]));
@@ -125,7 +155,7 @@ pub fn block(line: usize, s: Screen, list: &mut [i32], count: usize, room: &mut 
         return s;
     }
     plane::fill(&mut list[count..], 0);
-    let r = plane::draw(s.width, s.height, s.depth, list, room);
+    let r = plane::draw(s.stride, s.width, s.height, s.depth, list, room);
     say::at(line, b"block", natural(list[0]), natural(list[1]));
     if r.number != 0 {
         say::refused(r);
@@ -146,14 +176,22 @@ fn changed(
     past: &mut [i32],
 ) -> Screen
     requires { ⌜ Sound s × (s .steps < 4096) × Samples (s .depth) (now wanted) ⌝ }
-    requires { ⌜ (65536 ≤ length (now room)) × (73728 ≤ length (now past)) ⌝ }
+    requires { ⌜ (81920 ≤ length (now room)) × (73728 ≤ length (now past)) ⌝ }
     requires { ⌜ Held s (now room) (now past) ⌝ }
     ensures { λ r. ⌜ Sound r × Held r (now (room .exit)) (now (past .exit)) ⌝ }
 {
     let mut entry = [0i32; 18];
     entry[0] = row;
     entry[1] = column;
-    let r = steps::step(s.width, s.height, s.depth, wanted, &mut entry, room);
+    let r = steps::step(
+        s.stride,
+        s.width,
+        s.height,
+        s.depth,
+        wanted,
+        &mut entry,
+        room,
+    );
     say::at(line, b"change", natural(row), natural(column));
     if r.number != 0 {
         say::refused(r);
@@ -175,7 +213,7 @@ pub fn change(
     past: &mut [i32],
 ) -> Screen
     requires { ⌜ Sound s × (length (now wanted) ≡ 16) ⌝ }
-    requires { ⌜ (65536 ≤ length (now room)) × (73728 ≤ length (now past)) ⌝ }
+    requires { ⌜ (81920 ≤ length (now room)) × (73728 ≤ length (now past)) ⌝ }
     requires { ⌜ Held s (now room) (now past) ⌝ }
     ensures { λ r. ⌜ Sound r × Held r (now (room .exit)) (now (past .exit)) ⌝ }
 {
@@ -195,6 +233,7 @@ pub fn change(
 // The newest of k steps, taken back. It is never refused, and leaves what its undo is defined to leave.
 fn undo_one(
     line: usize,
+    stride: usize,
     width: usize,
     height: usize,
     depth: u32,
@@ -202,15 +241,15 @@ fn undo_one(
     room: &mut [i32],
     past: &[i32],
 )
-    requires { ⌜ (width ≤ 256) × (height ≤ 256) × (0 < k) × (k ≤ 4096) ⌝ }
-    requires { ⌜ (65536 ≤ length (now room)) × (73728 ≤ length (now past)) ⌝ }
-    requires { ⌜ Back (width * height) depth width k (now room) (now past) ⌝ }
-    ensures { λ _. ⌜ Back (width * height) depth width (k - 1) (now (room .exit)) (now (past .entry)) ⌝ }
-    ensures { λ _. ⌜ (done, now (room .exit)) ≡ backOf width height depth (entryAt (now (past .entry)) (k - 1)) (now (room .entry)) ⌝ }
+    requires { ⌜ (stride ≤ 320) × (height ≤ 256) × (0 < k) × (k ≤ 4096) ⌝ }
+    requires { ⌜ (81920 ≤ length (now room)) × (73728 ≤ length (now past)) ⌝ }
+    requires { ⌜ Back (stride * height) depth stride width k (now room) (now past) ⌝ }
+    ensures { λ _. ⌜ Back (stride * height) depth stride width (k - 1) (now (room .exit)) (now (past .entry)) ⌝ }
+    ensures { λ _. ⌜ (done, now (room .exit)) ≡ backOf stride width height depth (entryAt (now (past .entry)) (k - 1)) (now (room .entry)) ⌝ }
 {
     let a = 18 * (k - 1);
     let e = a + 18;
-    let r = steps::back(width, height, depth, &past[a..e], room);
+    let r = steps::back(stride, width, height, depth, &past[a..e], room);
     check::expect(r.number == 0);
     say::at(line, b"undo", natural(past[a]), natural(past[a + 1]));
     say::steps(k - 1);
@@ -219,14 +258,14 @@ fn undo_one(
 // The newest steps, taken back, newest first.
 fn undo_some(line: usize, s: Screen, count: usize, room: &mut [i32], past: &[i32]) -> Screen
     requires { ⌜ Sound s × (count ≤ s .steps) ⌝ }
-    requires { ⌜ (65536 ≤ length (now room)) × (73728 ≤ length (now past)) ⌝ }
+    requires { ⌜ (81920 ≤ length (now room)) × (73728 ≤ length (now past)) ⌝ }
     requires { ⌜ Held s (now room) (now past) ⌝ }
     ensures { λ r. ⌜ Sound r × Held r (now (room .exit)) (now (past .entry)) ⌝ }
 {
     let mut k = s.steps;
     let mut left = count;
     while 0 < left {
-        undo_one(line, s.width, s.height, s.depth, k, room, past);
+        undo_one(line, s.stride, s.width, s.height, s.depth, k, room, past);
         k -= 1;
         left -= 1;
     }
@@ -244,7 +283,7 @@ fn undo_nothing(line: usize, steps: usize) {
 // As many steps as the line says, taken back.
 pub fn undo(line: usize, s: Screen, count: usize, room: &mut [i32], past: &[i32]) -> Screen
     requires { ⌜ Sound s ⌝ }
-    requires { ⌜ (65536 ≤ length (now room)) × (73728 ≤ length (now past)) ⌝ }
+    requires { ⌜ (81920 ≤ length (now room)) × (73728 ≤ length (now past)) ⌝ }
     requires { ⌜ Held s (now room) (now past) ⌝ }
     ensures { λ r. ⌜ Sound r × Held r (now (room .exit)) (now (past .entry)) ⌝ }
 {
@@ -261,21 +300,22 @@ pub fn undo(line: usize, s: Screen, count: usize, room: &mut [i32], past: &[i32]
 
 // The screen as a picture.
 pub fn show(line: usize, s: Screen, room: &[i32])
-    requires { ⌜ Sound s × (65536 ≤ length (now room)) ⌝ }
+    requires { ⌜ Sound s × (81920 ≤ length (now room)) ⌝ }
 {
     say::event(line, b"show");
-    picture::show(room, s.width, s.height, s.depth);
+    picture::show(room, s.stride, s.width, s.height, s.depth);
 }
 
 // A copy of the screen is kept.
 pub fn keep(line: usize, s: Screen, room: &[i32], kept: &mut [i32]) -> Screen
-    requires { ⌜ Sound s × (65536 ≤ length (now room)) × (65536 ≤ length (now kept)) ⌝ }
+    requires { ⌜ Sound s × (81920 ≤ length (now room)) × (81920 ≤ length (now kept)) ⌝ }
     ensures { λ r. ⌜ Sound r × ((room past : List ℤ) → Held s room past → Held r room past) ⌝ }
 {
-    let n = s.width * s.height;
+    let n = s.stride * s.height;
     copy(&mut kept[..n], &room[..n]);
     say::event(line, b"keep");
     Screen {
+        stride: s.stride,
         width: s.width,
         height: s.height,
         depth: s.depth,
@@ -284,20 +324,34 @@ pub fn keep(line: usize, s: Screen, room: &[i32], kept: &mut [i32]) -> Screen
     }
 }
 
-// The screen against the kept copy.
+// The screen, its pad too, against the kept copy.
 pub fn compare(line: usize, s: Screen, room: &[i32], kept: &[i32])
-    requires { ⌜ Sound s × (0 < s .width) × (65536 ≤ length (now room)) × (65536 ≤ length (now kept)) ⌝ }
+    requires { ⌜ Sound s × (0 < s .stride) × (81920 ≤ length (now room)) × (81920 ≤ length (now kept)) ⌝ }
 {
     if !s.kept {
         say::error(line, b"nothing kept");
         return;
     }
-    let n = s.width * s.height;
+    let n = s.stride * s.height;
     let d = plane::first_difference(&room[..n], &kept[..n]);
     if d == n {
         say::event(line, b"compare: equal");
         return;
     }
-    say::at(line, b"compare: first differs", d / s.width, d % s.width);
+    say::at(line, b"compare: first differs", d / s.stride, d % s.stride);
+    say::text(b"\n");
+}
+
+// Whether the pad is as it was at the start.
+pub fn pad(line: usize, s: Screen, room: &[i32])
+    requires { ⌜ Sound s × (0 < s .stride) × (81920 ≤ length (now room)) ⌝ }
+{
+    let n = s.stride * s.height;
+    let d = plane::first_touched(&room[..n], s.stride, s.width);
+    if d == n {
+        say::event(line, b"pad: untouched");
+        return;
+    }
+    say::at(line, b"pad: first touched", d / s.stride, d % s.stride);
     say::text(b"\n");
 }

@@ -16,8 +16,8 @@ mod steps;
 fn main() {
     let mut text = [0u8; 262144];
     let mut list = [0i32; 1028];
-    let mut room = [0i32; 65536];
-    let mut kept = [0i32; 65536];
+    let mut room = [0i32; 81920];
+    let mut kept = [0i32; 81920];
     let mut past = [0i32; 73728];
     script::play(&mut text, &mut list, &mut room, &mut kept, &mut past);
 }

@@ -15,21 +15,21 @@ fn row(samples: &[i32]) {
     lines::line(&samples[at..]);
 }
 
-// The rows of a plane.
-fn rows(plane: &[i32], width: usize, height: usize)
-    requires { ⌜ (width ≤ 256) × (height ≤ 256) × (65536 ≤ length (now plane)) ⌝ }
+// The visible part of the lines of a plane.
+fn rows(plane: &[i32], stride: usize, width: usize, height: usize)
+    requires { ⌜ (stride ≤ 320) × (height ≤ 256) × (81920 ≤ length (now plane)) × (width ≤ stride) ⌝ }
 {
     let mut y = 0;
     while y < height {
-        let a = y * width;
+        let a = y * stride;
         let e = a + width;
         row(&plane[a..e]);
         y += 1;
     }
 }
 
-pub fn show(plane: &[i32], width: usize, height: usize, depth: u32)
-    requires { ⌜ (width ≤ 256) × (height ≤ 256) × (depth ≤ 12) × (65536 ≤ length (now plane)) ⌝ }
+pub fn show(plane: &[i32], stride: usize, width: usize, height: usize, depth: u32)
+    requires { ⌜ (stride ≤ 320) × (height ≤ 256) × (depth ≤ 12) × (81920 ≤ length (now plane)) × (width ≤ stride) ⌝ }
 {
     say::text(b"P2\n");
     say::number(width);
@@ -38,5 +38,5 @@ pub fn show(plane: &[i32], width: usize, height: usize, depth: u32)
     say::text(b"\n");
     say::number(natural(ranges::high_end(depth)));
     say::text(b"\n");
-    rows(plane, width, height);
+    rows(plane, stride, width, height);
 }

@@ -33,13 +33,16 @@ fn command(line: &[u8], from: usize, to: usize) -> u32
     if words::same(line, from, to, b"compare") {
         return 7;
     }
+    if words::same(line, from, to, b"pad") {
+        return 8;
+    }
     0
 }
 
 // Whether a command takes so many numbers.
 fn takes(command: u32, count: usize) -> bool {
     match command {
-        1 => count == 3,
+        1 => count == 3 || count == 4,
         2 => 4 <= count,
         3 => count == 18,
         4 => count <= 1,
@@ -50,13 +53,17 @@ fn takes(command: u32, count: usize) -> bool {
 // What a command takes.
 fn usage(number: usize, command: u32) {
     match command {
-        1 => say::error(number, b"screen takes WIDTH HEIGHT DEPTH"),
+        1 => say::error(
+            number,
+            b"screen takes WIDTH HEIGHT DEPTH and a pad or nothing",
+        ),
         2 => say::error(number, b"block takes ROW COLUMN SIZE TYPE and coefficients"),
         3 => say::error(number, b"change takes ROW COLUMN and 16 samples"),
         4 => say::error(number, b"undo takes a count or nothing"),
         5 => say::error(number, b"show takes nothing"),
         6 => say::error(number, b"keep takes nothing"),
-        _ => say::error(number, b"compare takes nothing"),
+        7 => say::error(number, b"compare takes nothing"),
+        _ => say::error(number, b"pad takes nothing"),
     }
 }
 
@@ -65,7 +72,12 @@ fn heads(command: u32, count: usize) -> usize
     ensures { λ r. ⌜ r ≤ 4 ⌝ }
 {
     match command {
-        1 => 3,
+        1 => {
+            if count == 4 {
+                return 4;
+            }
+            3
+        }
         2 => 4,
         3 => 2,
         4 => {
@@ -99,7 +111,7 @@ fn on_screen(
     kept: &mut [i32],
     past: &mut [i32],
 ) -> Screen
-    requires { ⌜ Sound s × (0 < s .width) × (count ≤ length (now list)) ⌝ }
+    requires { ⌜ Sound s × (0 < s .stride) × (count ≤ length (now list)) ⌝ }
     requires { ⌜ Roomy (now list) (now room) (now kept) (now past) ⌝ }
     requires { ⌜ Held s (now room) (now past) ⌝ }
     ensures { λ r. ⌜ Sound r × Held r (now (room .exit)) (now (past .exit)) ⌝ }
@@ -117,8 +129,12 @@ fn on_screen(
             s
         }
         6 => commands::keep(number, s, room, kept),
-        _ => {
+        7 => {
             commands::compare(number, s, room, kept);
+            s
+        }
+        _ => {
+            commands::pad(number, s, room);
             s
         }
     }
@@ -151,9 +167,9 @@ fn run(
         return s;
     }
     if command == 1 {
-        return commands::begin(number, s, list, room);
+        return commands::begin(number, s, list, count, room);
     }
-    if s.width == 0 {
+    if s.stride == 0 {
         say::error(number, b"no screen yet");
         return s;
     }
@@ -235,6 +251,7 @@ fn each_line(text: &[u8], list: &mut [i32], room: &mut [i32], kept: &mut [i32], 
     requires { ⌜ Roomy (now list) (now room) (now kept) (now past) ⌝ }
 {
     let mut s = Screen {
+        stride: 0,
         width: 0,
         height: 0,
         depth: 8,

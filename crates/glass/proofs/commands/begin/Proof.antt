@@ -38,23 +38,35 @@ error-requires c κs = search needs
 returns : tie.Need-returns
 returns c = search needs
 
+pad-of-requires : tie.Need-pad-of-requires
+pad-of-requires c κs = search needs
+
+slice-aggregate-error-2 : tie.Need-slice-aggregate-error-2
+slice-aggregate-error-2 c = search needs
+
+error-requires-2 : tie.Need-error-requires-2
+error-requires-2 c κs = search needs
+
+returns-2 : tie.Need-returns-2
+returns-2 c = search needs
+
 new-screen-requires : tie.Need-new-screen-requires
 new-screen-requires c κs =
-    let e = c .before in
+    let e = c .before .before .before in
     let d = e .before .before in
     let h = d .before .before in
     let w = h .before .before in
     let p = possible-is (w .natural .result) (h .natural2 .result) (d .natural3 .result) (sym (e .before .possible .ensures) ∙ not-false _ (e .if1 .left)) in
-    (p .0, p .1, p .2, p .3, w .before .before .pre .2)
+    (p .0, p .1, p .2, p .3, p .4, c .before .if2 .left, w .before .before .pre .2)
 
 same-length : tie.Need-same-length
 same-length c = search needs
 
-returns-2 : tie.Need-returns-2
-returns-2 c =
+returns-3 : tie.Need-returns-3
+returns-3 c =
     let f = c .before .new-screen in
     let q = f .result in
-    (f .ensures .0, λ past x. none-held (q .width * q .height) (q .depth) (q .width) (q .steps) (f .last .1 .1 .1 .1 .0) past (f .ensures .1))
+    (f .ensures .0, λ past x. none-held (q .stride * q .height) (q .depth) (q .stride) (q .width) (q .steps) (f .last .1 .1 .1 .1 .1 .0) past (f .ensures .1))
 
 pub begin-spec : {M : Type 1} → statement M
 begin-spec =
@@ -70,6 +82,10 @@ begin-spec =
     slice-aggregate-error
     error-requires
     returns
+    pad-of-requires
+    slice-aggregate-error-2
+    error-requires-2
+    returns-2
     new-screen-requires
     same-length
-    returns-2)
+    returns-3)

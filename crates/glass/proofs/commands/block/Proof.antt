@@ -87,7 +87,7 @@ returns-2 c =
     let s = d .before .before .before .before .before .before .before .before .before .before in
     let q = s .args .s in
     let l = s .args .list .now in
-    let same = drawn-same (q .width) (q .height) (q .depth) (putMid (s .args .count) (length l - s .args .count) l (d .before .before .before .before .fill .last .0)) (s .args .room .now) (d .draw .last .1 .1 .1 .1 .0) (d .draw .ensures) (t .if2 .taken) in
+    let same = drawn-same (q .stride) (q .width) (q .height) (q .depth) (putMid (s .args .count) (length l - s .args .count) l (d .before .before .before .before .fill .last .0)) (s .args .room .now) (d .draw .last .1 .1 .1 .1 .1 .0) (d .draw .ensures) (t .if2 .taken) in
     (s .pre .0, λ past x. subst (λ (l : List ℤ). Held q l past) (sym same) x)
 
 slice-aggregate-text : tie.Need-slice-aggregate-text
@@ -110,7 +110,7 @@ returns-3 c =
     let d = c .before .before .before .before .before .before .before .before .before .before .before .before in
     let s = d .before .before .before .before .before .before .before .before .before .before in
     let q = s .args .s in
-    (sound-steps (s .pre .0) (c .with-steps .ensures) zero-le, λ past x. held-steps q (c .with-steps .result) 0 (d .draw .last .1 .1 .1 .1 .0) past (c .with-steps .ensures) (none-held (q .width * q .height) (q .depth) (q .width) 0 (d .draw .last .1 .1 .1 .1 .0) past refl))
+    (sound-steps (s .pre .0) (c .with-steps .ensures) zero-le, λ past x. held-steps q (c .with-steps .result) 0 (d .draw .last .1 .1 .1 .1 .1 .0) past (c .with-steps .ensures) (none-held (q .stride * q .height) (q .depth) (q .stride) (q .width) 0 (d .draw .last .1 .1 .1 .1 .1 .0) past refl))
 
 pub block-spec : {M : Type 1} → statement M
 block-spec =

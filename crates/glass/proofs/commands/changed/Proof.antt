@@ -47,7 +47,7 @@ returns c =
     let f = t .before .before .before .before .before .before .before .before in
     let s = f .before .before .before in
     let q = s .args .s in
-    let same = room-same (q .width) (q .height) (q .depth) (f .step .last .1 .1 .1 .1 .0) (s .args .room .now) (f .step .last .1 .1 .1 .1 .1 .0) (f .step .ensures .0) (t .if1 .taken) in
+    let same = room-same (q .stride) (q .width) (q .height) (q .depth) (f .step .last .1 .1 .1 .1 .1 .0) (s .args .room .now) (f .step .last .1 .1 .1 .1 .1 .1 .0) (f .step .ensures .0) (t .if1 .taken) in
     (s .pre .0 .0, subst (λ (l : List ℤ). Held q l (s .args .past .now)) (sym same) (s .pre .1 .1))
 
 slice-aggregate-remember : tie.Need-slice-aggregate-remember
@@ -84,8 +84,8 @@ returns-2 c =
     let z = s .pre .0 .0 in
     let e = c .with-steps .ensures in (
       sound-steps z e (omega (arith, s .pre .0 .1)),
-      held-steps q (c .with-steps .result) (q .steps + 1) (f .step .last .1 .1 .1 .1 .1 .0) (m .remember .last .0) e
-          (held-more (q .width) (q .height) (q .depth) (q .steps) (few-samples (z .wide) (z .high) (s .pre .1 .0 .0)) (s .pre .1 .1) (f .step .ensures .0) (t .if1 .left) (m .remember .ensures)),
+      held-steps q (c .with-steps .result) (q .steps + 1) (f .step .last .1 .1 .1 .1 .1 .1 .0) (m .remember .last .0) e
+          (held-more (q .stride) (q .width) (q .height) (q .depth) (q .steps) (few-samples (z .long) (z .high) (s .pre .1 .0 .0)) (s .pre .1 .1) (f .step .ensures .0) (t .if1 .left) (m .remember .ensures)),
     )
 
 pub changed-spec : {M : Type 1} → statement M

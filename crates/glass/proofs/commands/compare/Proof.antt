@@ -7,11 +7,11 @@ use Rattle.glass.proofs.Planes.{few-fits, screen-part}
 use Rattle.glass.proofs.commands.compare.Statement.{statement}
 use Rattle.glass.proofs.commands.compare.Tie as tie
 
-room-part : (s : tie.Start) → length (take (s .args .s .width * s .args .s .height) (s .args .room .now)) ≡ s .args .s .width * s .args .s .height
-room-part s = screen-part (s .args .room .now) (s .pre .0 .wide) (s .pre .0 .high) (s .pre .2)
+room-part : (s : tie.Start) → length (take (s .args .s .stride * s .args .s .height) (s .args .room .now)) ≡ s .args .s .stride * s .args .s .height
+room-part s = screen-part (s .args .room .now) (s .pre .0 .long) (s .pre .0 .high) (s .pre .2)
 
-kept-part : (s : tie.Start) → length (take (s .args .s .width * s .args .s .height) (s .args .kept .now)) ≡ s .args .s .width * s .args .s .height
-kept-part s = screen-part (s .args .kept .now) (s .pre .0 .wide) (s .pre .0 .high) (s .pre .3)
+kept-part : (s : tie.Start) → length (take (s .args .s .stride * s .args .s .height) (s .args .kept .now)) ≡ s .args .s .stride * s .args .s .height
+kept-part s = screen-part (s .args .kept .now) (s .pre .0 .long) (s .pre .0 .high) (s .pre .3)
 
 slice-aggregate-error : tie.Need-slice-aggregate-error
 slice-aggregate-error c = search needs
@@ -23,7 +23,7 @@ returns : tie.Need-returns
 returns c = search needs
 
 mul-n : tie.Need-mul-n
-mul-n c = let s = c .before .before .before in few-fits (s .pre .0 .wide) (s .pre .0 .high)
+mul-n c = let s = c .before .before .before in few-fits (s .pre .0 .long) (s .pre .0 .high)
 
 slice-aggregate-first-difference : tie.Need-slice-aggregate-first-difference
 slice-aggregate-first-difference c = sym (room-part (c .before .before .before .before))

@@ -7,17 +7,17 @@ use Rattle.glass.proofs.Planes.{few-samples, few-fits, screen-part}
 use Rattle.glass.proofs.commands.keep.Statement.{statement}
 use Rattle.glass.proofs.commands.keep.Tie as tie
 
-room-part : (s : tie.Start) → length (take (s .args .s .width * s .args .s .height) (s .args .room .now)) ≡ s .args .s .width * s .args .s .height
-room-part s = screen-part (s .args .room .now) (s .pre .0 .wide) (s .pre .0 .high) (s .pre .1)
+room-part : (s : tie.Start) → length (take (s .args .s .stride * s .args .s .height) (s .args .room .now)) ≡ s .args .s .stride * s .args .s .height
+room-part s = screen-part (s .args .room .now) (s .pre .0 .long) (s .pre .0 .high) (s .pre .1)
 
-kept-part : (s : tie.Start) → length (take (s .args .s .width * s .args .s .height) (s .args .kept .now)) ≡ s .args .s .width * s .args .s .height
-kept-part s = screen-part (s .args .kept .now) (s .pre .0 .wide) (s .pre .0 .high) (s .pre .2)
+kept-part : (s : tie.Start) → length (take (s .args .s .stride * s .args .s .height) (s .args .kept .now)) ≡ s .args .s .stride * s .args .s .height
+kept-part s = screen-part (s .args .kept .now) (s .pre .0 .long) (s .pre .0 .high) (s .pre .2)
 
 mul-n : tie.Need-mul-n
-mul-n c = let s = c .before in few-fits (s .pre .0 .wide) (s .pre .0 .high)
+mul-n c = let s = c .before in few-fits (s .pre .0 .long) (s .pre .0 .high)
 
 slice-relend-prefix-copy : tie.Need-slice-relend-prefix-copy
-slice-relend-prefix-copy c = let s = c .before in few-samples (s .pre .0 .wide) (s .pre .0 .high) (s .pre .2)
+slice-relend-prefix-copy c = let s = c .before in few-samples (s .pre .0 .long) (s .pre .0 .high) (s .pre .2)
 
 slice-aggregate-copy : tie.Need-slice-aggregate-copy
 slice-aggregate-copy c = sym (kept-part (c .before .before))

@@ -14,14 +14,14 @@ use Rattle.glass.proofs.commands.undo_one.Tie as tie
 
 less : (c : tie.After-back)
     → let q = c .before .before .before .args in
-    let room = c .back .last .1 .1 .1 .1 .0 in
+    let room = c .back .last .1 .1 .1 .1 .1 .0 in
     (c .back .result ≡ done)
-    × Back (q .width * q .height) (q .depth) (q .width) (q .k - 1) room (q .past .now)
-    × ((done, room) ≡ backOf (q .width) (q .height) (q .depth) (entryAt (q .past .now) (q .k - 1)) (q .room .now))
+    × Back (q .stride * q .height) (q .depth) (q .stride) (q .width) (q .k - 1) room (q .past .now)
+    × ((done, room) ≡ backOf (q .stride) (q .width) (q .height) (q .depth) (entryAt (q .past .now) (q .k - 1)) (q .room .now))
 less c =
     let s = c .before .before .before in
     let q = s .args in
-    held-less (q .width) (q .height) (q .depth) (q .k) (few-samples (s .pre .0 .0) (s .pre .0 .1) (s .pre .1 .0 .0)) (s .pre .0 .2) (s .pre .1 .1) (c .back .ensures)
+    held-less (q .stride) (q .width) (q .height) (q .depth) (q .k) (few-samples (s .pre .0 .0) (s .pre .0 .1) (s .pre .1 .0 .0)) (s .pre .0 .2) (s .pre .1 .1) (c .back .ensures)
 
 sub-a : tie.Need-sub-a
 sub-a c = search needs

@@ -10,7 +10,7 @@ use Rattle.glass.proofs.commands.undo_some.Statement.{statement}
 use Rattle.glass.proofs.commands.undo_some.Tie as tie
 
 abbrev Inv-loop : tie.InvT-loop
-Inv-loop line s count room₀ past k₀ left₀ room k left = (left ≤ k) × (k ≤ 4096) × (length room ≡ length room₀) × Back (s .width * s .height) (s .depth) (s .width) k room past
+Inv-loop line s count room₀ past k₀ left₀ room k left = (left ≤ k) × (k ≤ 4096) × (length room ≡ length room₀) × Back (s .stride * s .height) (s .depth) (s .stride) (s .width) k room past
 
 abbrev μ-loop : tie.MeasureT-loop
 μ-loop line s count room₀ past k₀ left₀ room k left = left
@@ -23,7 +23,7 @@ undo-one-requires c κs =
     let l = c .before .before in
     let s = l .before in
     let z = s .pre .0 .0 in
-    ((z .wide, z .high, omega (arith, c .before .loop-test .taken, l .loop .inv .0), l .loop .inv .1), ((omega (arith, l .loop .inv .2, s .pre .1 .0 .0), s .pre .1 .0 .1), l .loop .inv .3))
+    ((z .long, z .high, omega (arith, c .before .loop-test .taken, l .loop .inv .0), l .loop .inv .1), ((omega (arith, l .loop .inv .2, s .pre .1 .0 .0), s .pre .1 .0 .1), l .loop .inv .3))
 
 sub-k : tie.Need-sub-k Inv-loop μ-loop
 sub-k c = search needs
@@ -38,7 +38,7 @@ loop-again : tie.Need-loop-again Inv-loop μ-loop
 loop-again c =
     let f = c .before in
     let l = f .before .before .before in
-    (omega (arith, l .loop .inv .0), omega (arith, l .loop .inv .1), f .undo-one .kept .1 .1 .1 .1 .1 .0 ∙ l .loop .inv .2, f .undo-one .ensures .0)
+    (omega (arith, l .loop .inv .0), omega (arith, l .loop .inv .1), f .undo-one .kept .1 .1 .1 .1 .1 .1 .0 ∙ l .loop .inv .2, f .undo-one .ensures .0)
 
 with-steps-requires : tie.Need-with-steps-requires Inv-loop μ-loop
 with-steps-requires c κs = search needs

@@ -9,17 +9,17 @@ use Rattle.glass.proofs.picture.rows.Statement.{statement}
 use Rattle.glass.proofs.picture.rows.Tie as tie
 
 abbrev Inv-loop : tie.InvT-loop
-Inv-loop plane width height y₀ y = y ≤ height
+Inv-loop plane stride width height y₀ y = y ≤ height
 
 abbrev μ-loop : tie.MeasureT-loop
-μ-loop plane width height y₀ y = height - y
+μ-loop plane stride width height y₀ y = height - y
 
 -- the row ends within the plane
-end : (c : tie.In-loop Inv-loop μ-loop) → let s = c .before .before in c .before .loop .y * s .args .width + s .args .width ≤ length (s .args .plane .now)
+end : (c : tie.In-loop Inv-loop μ-loop) → let s = c .before .before in c .before .loop .y * s .args .stride + s .args .width ≤ length (s .args .plane .now)
 end c =
     let s = c .before .before in
     let l : c .before .loop .y + 1 ≤ s .args .height = omega arith in
-    omega (arith, N.mul-le-mul-right (s .args .width) l, N.mul-comm (s .args .height) (s .args .width), few-samples (s .pre .0) (s .pre .1) (s .pre .2))
+    omega (arith, N.mul-le-mul-right (s .args .stride) l, N.mul-comm (s .args .height) (s .args .stride), few-samples (s .pre .0) (s .pre .1) (s .pre .2), s .pre .3)
 
 loop-holds : tie.Need-loop-holds Inv-loop μ-loop
 loop-holds c = omega arith

@@ -3,6 +3,7 @@ use mathlib.Core.Path.{_≡_, sym, ap, _∙_}
 use mathlib.Core.Bool.{true}
 use mathlib.Core.List.{List, _++_}
 use Prim.Native.Nat.{_+_, _*_, _≤_}
+use native.Mathlib.Nat.{le-trans}
 use native.Mathlib.Omega.{arith}
 use borrow.Author.Needs.{needs}
 use borrow.Author.Tests.{not-true, not-false, leb-true}
@@ -10,7 +11,7 @@ use lib.Dec.{leb}
 use lib.IntN.{ℤ}
 use lib.ListN.{length}
 use Rattle.answers.specs.declared.Answer.{Answer}
-use Rattle.pixels.specs.Calls.{wOf, hOf, addOf}
+use Rattle.pixels.specs.Calls.{strict, wOf, hOf, addOf}
 use Rattle.pixels.proofs.Judging.{sides}
 use Rattle.whole.proofs.Tests.{both}
 use Rattle.glass.specs.Planes.{standsOf, blockStands, blockOf, fromOn}
@@ -26,14 +27,14 @@ module _ (c : tie.Else1) where
   on : blockStands (s .args .width) (s .args .height) (s .args .row) (s .args .column) (s .args .tx) ≡ true
   on = sym (c .before .block-stands .ensures) ∙ not-false _ (c .if1 .left)
 
-  start : s .args .row * s .args .width + s .args .column ≤ length (s .args .plane .now)
+  start : s .args .row * s .args .stride + s .args .column ≤ length (s .args .plane .now)
   start =
       let q = s .args in
       let t = both (leb (q .tx) 24) (standsOf (q .width) (q .height) (q .row) (q .column) (wOf (q .tx)) (hOf (q .tx))) on in
       let k = leb-true (q .tx) 24 (t .0) in
       let p = stands-is (q .width) (q .height) (q .row) (q .column) (wOf (q .tx)) (hOf (q .tx)) (t .1) in
       let z = sides (q .tx) (omega arith) in
-      omega (arith, s .pre, block-fits (q .width) (q .height) (q .row) (q .column) (wOf (q .tx)) 0 (p .0) (omega (arith, p .1, z .high)))
+      omega (arith, s .pre .0, block-fits (q .stride) (q .height) (q .row) (q .column) (wOf (q .tx)) 0 (le-trans (p .0) (s .pre .1)) (omega (arith, p .1, z .high)))
 
 block-stands-requires : tie.Need-block-stands-requires
 block-stands-requires c κs = search needs
@@ -89,10 +90,10 @@ returns-2 c =
     let e = c .before .before .before in
     let f = c .before .inv-txfm-add2 in
     let q = s e .args in
-    let a = q .row * q .width + q .column in
+    let a = q .row * q .stride + q .column in
     rw (on e)
     (ap (λ l. (f .result, l)) (tail-back a (q .plane .now) (f .last .0))
-    ∙ ap (fromOn a (q .plane .now)) (f .ensures ∙ ap (λ l. addOf l (q .width) (q .coeff .now) (q .txtp) (q .tx) (q .depth)) (tail-lent a (q .plane .now))))
+    ∙ ap (fromOn a (q .plane .now)) (f .ensures ∙ ap (λ l. addOf strict l (q .stride) (q .coeff .now) (q .txtp) (q .tx) (q .depth)) (tail-lent a (q .plane .now))))
 
 pub add-spec : {M : Type 1} → statement M
 add-spec =

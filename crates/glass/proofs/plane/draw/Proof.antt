@@ -12,7 +12,7 @@ use Rattle.glass.proofs.plane.draw.Statement.{statement}
 use Rattle.glass.proofs.plane.draw.Tie as tie
 
 -- the samples lie in the room
-few : (s : tie.Start) → s .args .width * s .args .height ≤ length (s .args .room .now)
+few : (s : tie.Start) → s .args .stride * s .args .height ≤ length (s .args .room .now)
 few s = few-samples (s .pre .0) (s .pre .1) (s .pre .3)
 
 abbrev start : tie.After-natural4 → tie.Start
@@ -61,7 +61,7 @@ part-add-end : tie.Need-part-add-end
 part-add-end c = search needs
 
 add-requires : tie.Need-add-requires
-add-requires c κs = let s = start (c .before .before) in length-take-le _ (s .args .room .now) (few s)
+add-requires c κs = let s = start (c .before .before) in (length-take-le _ (s .args .room .now) (few s), s .pre .4)
 
 same-length : tie.Need-same-length
 same-length c = search needs
@@ -75,9 +75,9 @@ returns c =
     let s = r .before .before in
     let q = s .args in
     let l = q .list .now in
-    ap (onRoom (q .width * q .height) (q .room .now))
+    ap (onRoom (q .stride * q .height) (q .room .now))
     (c .before .add .ensures
-    ∙ block-same (take (q .width * q .height) (q .room .now)) (q .width) (q .height) (q .depth)
+    ∙ block-same (take (q .stride * q .height) (q .room .now)) (q .stride) (q .width) (q .height) (q .depth)
     (r .natural .ensures ∙ natural-read (numbers l 0) (record { sfits = r .before .natural-arg .given }))
     (k .natural2 .ensures ∙ natural-read (numbers l 1) (record { sfits = k .before .natural-arg2 .given }))
     (tail-lent 4 l)

@@ -21,7 +21,7 @@ abbrev μ-loop : tie.MeasureT-loop
 loop-holds : tie.Need-loop-holds Inv-loop μ-loop
 loop-holds c =
     let s = c .before in
-    (omega arith, omega arith, record { wide = lit≤ tt; high = lit≤ tt; deep = lit≤ tt; few = lit≤ tt }, none-held 0 8 0 0 (s .args .room .now) (s .args .past .now) refl, refl, refl, refl, refl)
+    (omega arith, omega arith, record { wide = lit≤ tt; long = lit≤ tt; high = lit≤ tt; deep = lit≤ tt; few = lit≤ tt }, none-held 0 8 0 0 0 (s .args .room .now) (s .args .past .now) refl, refl, refl, refl, refl)
 
 find-requires : tie.Need-find-requires Inv-loop μ-loop
 find-requires c κs = (omega arith, le-refl _)

@@ -39,6 +39,9 @@ keep-requires c κs = search needs
 compare-requires : tie.Need-compare-requires
 compare-requires c κs = search needs
 
+pad-requires : tie.Need-pad-requires
+pad-requires c κs = search needs
+
 same-length : tie.Need-same-length
 same-length c = search needs
 
@@ -102,6 +105,12 @@ same-length-13 c = search needs
 returns-6 : tie.Need-returns-6
 returns-6 c = search needs
 
+same-length-14 : tie.Need-same-length-14
+same-length-14 c = search needs
+
+returns-7 : tie.Need-returns-7
+returns-7 c = search needs
+
 pub on-screen-spec : {M : Type 1} → statement M
 on-screen-spec =
     tie.close
@@ -118,6 +127,7 @@ on-screen-spec =
     show-requires
     keep-requires
     compare-requires
+    pad-requires
     same-length
     same-length-2
     returns
@@ -136,4 +146,6 @@ on-screen-spec =
     returns-5
     same-length-12
     same-length-13
-    returns-6)
+    returns-6
+    same-length-14
+    returns-7)

@@ -10,7 +10,7 @@ use Rattle.glass.proofs.steps.back.Statement.{statement}
 use Rattle.glass.proofs.steps.back.Tie as tie
 
 -- the samples lie in the room
-few : (s : tie.Start) → s .args .width * s .args .height ≤ length (s .args .room .now)
+few : (s : tie.Start) → s .args .stride * s .args .height ≤ length (s .args .room .now)
 few s = few-samples (s .pre .0) (s .pre .1) (s .pre .2)
 
 mul-n : tie.Need-mul-n
@@ -29,7 +29,7 @@ same-length : tie.Need-same-length
 same-length c = search needs
 
 returns : tie.Need-returns
-returns c = let s = c .before .before .before in ap (onRoom (s .args .width * s .args .height) (s .args .room .now)) (c .before .take-back .ensures)
+returns c = let s = c .before .before .before in ap (onRoom (s .args .stride * s .args .height) (s .args .room .now)) (c .before .take-back .ensures)
 
 pub back-spec : {M : Type 1} → statement M
 back-spec =

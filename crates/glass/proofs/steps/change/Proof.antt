@@ -64,14 +64,14 @@ returns c =
     let s = a .before .before in
     let q = s .args in
     let e = q .entry .now in
-    let ls = t .levels-to .last .1 .1 .1 .1 .1 .1 .1 .0 in
+    let ls = t .levels-to .last .1 .1 .1 .1 .1 .1 .1 .1 .0 in
     let r = a .natural .ensures ∙ natural-read (numbers e 0) (record { sfits = a .before .natural-arg .given }) in
     let k = b .natural2 .ensures ∙ natural-read (numbers e 1) (record { sfits = b .before .natural-arg2 .given }) in
-    let kept = heads-kept e ls (s .pre .3) (t .levels-to .kept .1 .1 .1 .1 .1 .1 .1 .0) in (
+    let kept = heads-kept e ls (s .pre .3) (t .levels-to .kept .1 .1 .1 .1 .1 .1 .1 .1 .0) in (
       f .ensures
           ∙ ap (stepOf (q .plane .now))
-          (step-same (q .depth) (q .width) (q .width) (r ∙ kept 0 (lit< tt)) (k ∙ kept 1 (lit< tt)) (tail-lent 2 (putMid 2 (length e - 2) e ls))),
-      tail-back 2 e ls ∙ entry-new (q .depth) (q .width) (q .height) (q .plane .now) (q .wanted .now) e ls r k (tail-lent 2 e) (t .levels-to .ensures),
+          (step-same (q .depth) (q .stride) (q .width) (r ∙ kept 0 (lit< tt)) (k ∙ kept 1 (lit< tt)) (tail-lent 2 (putMid 2 (length e - 2) e ls))),
+      tail-back 2 e ls ∙ entry-new (q .depth) (q .stride) (q .width) (q .height) (q .plane .now) (q .wanted .now) e ls r k (tail-lent 2 e) (t .levels-to .ensures),
     )
 
 pub change-spec : {M : Type 1} → statement M

@@ -17,14 +17,14 @@ use Rattle.glass.proofs.steps.differences.Statement.{statement}
 use Rattle.glass.proofs.steps.differences.Tie as tie
 
 abbrev Inv-loop : tie.InvT-loop
-Inv-loop plane start width wanted gaps₀ k₀ gaps k = Filling (pos 0) 16 (λ j. numbers wanted j -ℤ numbers plane (cellAt start width 4 j)) gaps k
+Inv-loop plane start stride wanted gaps₀ k₀ gaps k = Filling (pos 0) 16 (λ j. numbers wanted j -ℤ numbers plane (cellAt start stride 4 j)) gaps k
 
 abbrev μ-loop : tie.MeasureT-loop
-μ-loop plane start width wanted gaps₀ k₀ gaps k = 16 - k
+μ-loop plane start stride wanted gaps₀ k₀ gaps k = 16 - k
 
 -- the sample lies in the plane
-cell : (c : tie.In-loop Inv-loop μ-loop) → let s = c .before .before in cellAt (s .args .start) (s .args .width) 4 (c .before .loop .k) < length (s .args .plane .now)
-cell c = let s = c .before .before in cell-lies (s .args .start) (s .args .width) (length (s .args .plane .now)) (s .pre .0) (c .before .loop .k) (c .loop-test .taken)
+cell : (c : tie.In-loop Inv-loop μ-loop) → let s = c .before .before in cellAt (s .args .start) (s .args .stride) 4 (c .before .loop .k) < length (s .args .plane .now)
+cell c = let s = c .before .before in cell-lies (s .args .start) (s .args .stride) (length (s .args .plane .now)) (s .pre .0) (c .before .loop .k) (c .loop-test .taken)
 
 loop-holds : tie.Need-loop-holds Inv-loop μ-loop
 loop-holds c = fill-start (c .pre .1)

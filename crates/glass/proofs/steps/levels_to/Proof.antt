@@ -3,6 +3,7 @@ use mathlib.Core.Path.{_≡_, refl, sym, ap, _∙_, subst}
 use mathlib.Core.Bool.{true}
 use mathlib.Core.List.{List}
 use Prim.Native.Nat.{ℕ, _+_, _*_, _≤_, _<_}
+use native.Mathlib.Nat.{le-trans}
 use native.Mathlib.Omega.{arith}
 use borrow.Author.Needs.{needs}
 use borrow.Author.Tests.{not-true, not-false}
@@ -29,19 +30,19 @@ module _ (c : tie.Else1) where
   s = c .before .before
 
   abbrev start : ℕ
-  start = s .args .row * s .args .width + s .args .column
+  start = s .args .row * s .args .stride + s .args .column
 
   on : standsOf (s .args .width) (s .args .height) (s .args .row) (s .args .column) 4 4 ≡ true
   on = sym (c .before .stands .ensures) ∙ not-false _ (c .if1 .left)
 
-  last : start + 3 * s .args .width + 4 ≤ length (s .args .plane .now)
+  last : start + 3 * s .args .stride + 4 ≤ length (s .args .plane .now)
   last =
       let q = s .args in
       let p = stands-is (q .width) (q .height) (q .row) (q .column) 4 4 on in
-      omega (arith, s .pre .0, block-fits (q .width) (q .height) (q .row) (q .column) 4 3 (p .0) (p .1))
+      omega (arith, s .pre .0, block-fits (q .stride) (q .height) (q .row) (q .column) 4 3 (le-trans (p .0) (s .pre .4)) (p .1))
 
 abbrev Found : tie.Start → ℕ
-Found s = let q = s .args in found (q .depth) (q .width) (q .height) (q .row) (q .column) (q .plane .now) (q .wanted .now) (q .levels .now)
+Found s = let q = s .args in found (q .depth) (q .stride) (q .width) (q .height) (q .row) (q .column) (q .plane .now) (q .wanted .now) (q .levels .now)
 
 bad : (c : tie.After-first-outside) → c .first-outside .result ≡ Found (s (c .before .before))
 bad c = rw (back (c .before .high-end .ok), c .before .high-end .ensures) at (c .first-outside .ensures)
@@ -53,7 +54,7 @@ module _ (c : tie.Else2) where
   all-present : 16 ≤ Found (s place-of)
   all-present = subst (λ (k : ℕ). 16 ≤ k) (bad (c .before)) (c .if2 .left)
 
-  near : let q = s place-of .args in Near (q .plane .now) (start place-of) (q .width) (q .wanted .now)
+  near : let q = s place-of .args in Near (q .plane .now) (start place-of) (q .stride) (q .wanted .now)
   near =
       let z = s place-of in
       let q = z .args in
@@ -61,8 +62,8 @@ module _ (c : tie.Else2) where
         count = z .pre .2 .count;
         wanted = λ k h. sample-size (q .depth) (numbers (q .wanted .now) k) (z .pre .1) (z .pre .2 .good k h);
         present = λ k h.
-            sample-size (q .depth) (numbers (q .plane .now) (cellAt (start place-of) (q .width) 4 k)) (z .pre .1)
-            (seek-passed (presentOk (sample (q .depth)) (cellAt (start place-of) (q .width) 4) (q .plane .now)) 16 all-present k h);
+            sample-size (q .depth) (numbers (q .plane .now) (cellAt (start place-of) (q .stride) 4 k)) (z .pre .1)
+            (seek-passed (presentOk (sample (q .depth)) (cellAt (start place-of) (q .stride) 4) (q .plane .now)) 16 all-present k h);
       }
 
 stands-requires : tie.Need-stands-requires
@@ -72,7 +73,7 @@ returns : tie.Need-returns
 returns c =
     let s = c .before .before in
     let q = s .args in
-    levels-off (q .depth) (q .width) (q .height) (q .row) (q .column) (q .plane .now) (q .wanted .now) (q .levels .now) (sym (c .before .stands .ensures) ∙ not-true _ (c .if1 .taken))
+    levels-off (q .depth) (q .stride) (q .width) (q .height) (q .row) (q .column) (q .plane .now) (q .wanted .now) (q .levels .now) (sym (c .before .stands .ensures) ∙ not-true _ (c .if1 .taken))
 
 mul-start : tie.Need-mul-start
 mul-start c = record { fits = omega (arith, last c, s c .good .0 .0) }
@@ -84,14 +85,14 @@ high-end-requires : tie.Need-high-end-requires
 high-end-requires c κs = search needs
 
 first-outside-requires : tie.Need-first-outside-requires
-first-outside-requires c κs = let e = c .before in (lit< tt, rows-end (start e) (s e .args .width) (length (s e .args .plane .now)) (last e))
+first-outside-requires c κs = let e = c .before in (lit< tt, rows-end (start e) (s e .args .stride) (length (s e .args .plane .now)) (last e))
 
 returns-2 : tie.Need-returns-2
 returns-2 c =
     let f = c .before in
     let e = f .before .before in
     let q = s e .args in
-    levels-bad (q .depth) (q .width) (q .height) (q .row) (q .column) (q .plane .now) (q .wanted .now) (q .levels .now) (on e) (subst (λ (k : ℕ). k < 16) (bad f) (c .if2 .taken))
+    levels-bad (q .depth) (q .stride) (q .width) (q .height) (q .row) (q .column) (q .plane .now) (q .wanted .now) (q .levels .now) (on e) (subst (λ (k : ℕ). k < 16) (bad f) (c .if2 .taken))
 
 slice-aggregate-differences : tie.Need-slice-aggregate-differences
 slice-aggregate-differences c = search needs
@@ -118,7 +119,7 @@ returns-3 c =
     let e = d .before .before in
     let q = s (place-of e) .args in
     l .levels .ensures ∙ ap fwht (d .differences .ensures)
-    ∙ levels-new (q .depth) (q .width) (q .height) (q .row) (q .column) (q .plane .now) (q .wanted .now) (q .levels .now) (on (place-of e)) (all-present e)
+    ∙ levels-new (q .depth) (q .stride) (q .width) (q .height) (q .row) (q .column) (q .plane .now) (q .wanted .now) (q .levels .now) (on (place-of e)) (all-present e)
 
 pub levels-to-spec : {M : Type 1} → statement M
 levels-to-spec =

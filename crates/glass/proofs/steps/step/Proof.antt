@@ -10,7 +10,7 @@ use Rattle.glass.proofs.steps.step.Statement.{statement}
 use Rattle.glass.proofs.steps.step.Tie as tie
 
 -- the samples lie in the room
-few : (s : tie.Start) → s .args .width * s .args .height ≤ length (s .args .room .now)
+few : (s : tie.Start) → s .args .stride * s .args .height ≤ length (s .args .room .now)
 few s = few-samples (s .pre .0) (s .pre .1) (s .pre .3)
 
 mul-n : tie.Need-mul-n
@@ -23,7 +23,7 @@ slice-aggregate-change : tie.Need-slice-aggregate-change
 slice-aggregate-change c = sym (length-take-le _ (c .before .args .room .now) (few (c .before)))
 
 change-requires : tie.Need-change-requires
-change-requires c κs = let s = c .before .before in (length-take-le _ (s .args .room .now) (few s), s .pre .2, s .pre .4, s .pre .5)
+change-requires c κs = let s = c .before .before in (length-take-le _ (s .args .room .now) (few s), s .pre .2, s .pre .4, s .pre .5, s .pre .6)
 
 same-length : tie.Need-same-length
 same-length c = search needs
@@ -35,7 +35,7 @@ returns : tie.Need-returns
 returns c =
     let s = c .before .before .before .before .before in
     let f = c .before .before .change in
-    (ap (onRoom (s .args .width * s .args .height) (s .args .room .now)) (f .ensures .0), f .ensures .1)
+    (ap (onRoom (s .args .stride * s .args .height) (s .args .room .now)) (f .ensures .0), f .ensures .1)
 
 pub step-spec : {M : Type 1} → statement M
 step-spec =

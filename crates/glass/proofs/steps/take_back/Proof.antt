@@ -45,7 +45,7 @@ returns c =
     let e = s .args .entry .now in
     f .ensures
     ∙ ap (undoOf (s .args .plane .now))
-    (step-same (s .args .depth) (s .args .width) (s .args .width) (a .natural .ensures ∙ natural-read (numbers e 0) (record { sfits = a .before .natural-arg .given }))
+    (step-same (s .args .depth) (s .args .stride) (s .args .width) (a .natural .ensures ∙ natural-read (numbers e 0) (record { sfits = a .before .natural-arg .given }))
     (b .natural2 .ensures ∙ natural-read (numbers e 1) (record { sfits = b .before .natural-arg2 .given })) (tail-lent 2 e))
 
 pub take-back-spec : {M : Type 1} → statement M
