@@ -16,7 +16,7 @@ import stream
 import tables
 from stream import Case
 
-RANGE = (-11_864_550, 11_864_549)
+RANGE = (-11_864_550, 11_864_549)  # of clamping calls, where a size is scaled
 WHOLE = (-(2**31), 2**31 - 1)
 
 
@@ -85,51 +85,54 @@ def combinations():
     ]
 
 
-def coefficient_range(size):
-    return RANGE if model.rectangular(size) else WHOLE
+def coefficient_range(call, depth, size):
+    """What a call accepts for a coefficient."""
+    return model.coefficient_range(depth, size, call in stream.CLAMPED) or WHOLE
 
 
-def single(rng, size, *_):
+# Patterns of coefficients within some ends, for a size and its two kinds.
+
+
+def single(rng, ends, size, *_):
     numbers = [0] * model.used(size)[0]
-    numbers[rng.choice((0, rng.randrange(len(numbers))))] = some(rng, 1, *coefficient_range(size))[0]
+    numbers[rng.choice((0, rng.randrange(len(numbers))))] = some(rng, 1, *ends)[0]
     return numbers
 
 
-def corner(rng, size, *_):
+def corner(rng, ends, size, *_):
     """A few low coefficients of the first rows and columns."""
     count, sh = model.used(size)
     numbers = [0] * count
-    for value in some(rng, rng.randint(1, 8), *coefficient_range(size)):
+    for value in some(rng, rng.randint(1, 8), *ends):
         numbers[rng.randrange(4) + sh * rng.randrange(4)] = value
     return numbers
 
 
-def scattered(rng, size, *_):
+def scattered(rng, ends, size, *_):
     numbers = [0] * model.used(size)[0]
-    for value in some(rng, rng.randint(2, 12), *coefficient_range(size)):
+    for value in some(rng, rng.randint(2, 12), *ends):
         numbers[rng.randrange(len(numbers))] = value
     return numbers
 
 
-def dense(rng, size, *_):
-    return some(rng, model.used(size)[0], *coefficient_range(size))
+def dense(rng, ends, size, *_):
+    return some(rng, model.used(size)[0], *ends)
 
 
 def sign(value):
     return (value > 0) - (value < 0)
 
 
-def aligned(rng, size, horizontal, vertical):
+def aligned(rng, ends, size, horizontal, vertical):
     """Numbers of one size with the signs of a kernel row, so that one output becomes as large as it can."""
     w, h = model.width_and_height(size)
     across = rng.choice(model.matrix(w, horizontal))
     down = rng.choice(model.matrix(h, vertical))
-    low, high = coefficient_range(size)
-    top = rng.choice((2**15, 2**16, 2**17, 2**18, 2**19, 2**20, high))
-    return clamped([top * sign(a) * sign(b) for a in across for b in down], low, high)
+    top = rng.choice((2**15, 2**16, 2**17, 2**18, 2**19, 2**20, ends[1]))
+    return clamped([top * sign(a) * sign(b) for a in across for b in down], *ends)
 
 
-def empty(rng, size, *_):
+def empty(rng, ends, size, *_):
     return [0] * model.used(size)[0]
 
 
@@ -155,12 +158,12 @@ def plane_of(rng, depth, stride, width, height, start, room):
 
 
 def block(rng, call, depth, size, horizontal, vertical, room=stream.LIMIT):
-    """An accepted case of calls 1 to 4."""
+    """An accepted case of a pixel call."""
     w, h = model.width_and_height(size)
     type = horizontal | rng.choice((0, 0, rng.randrange(4))) << 3 | vertical << 5
-    coefficients = rng.choice(PATTERNS)(rng, size, horizontal, vertical)
+    coefficients = rng.choice(PATTERNS)(rng, coefficient_range(call, depth, size), size, horizontal, vertical)
     coefficients += extra(rng, room - len(coefficients))
-    if call in (1, 2):
+    if stream.CALLS[call].kind == "recon":
         spare = room - w * h
         prediction = samples(rng, w * h, depth) + extra(rng, spare)
         return Case(call, [depth, size, type], [coefficients, prediction, old_output(rng, w * h) + extra(rng, spare)])
@@ -254,11 +257,8 @@ def history(rng, steps):
 
 def accepted(rng, blocks, call):
     """An accepted case of any call."""
-    if call <= 4:
-        return blocks.case(call)
-    if call == 5:
-        return chroma(rng)
-    return wht(rng, call) if call <= 7 else lossless(rng, call)
+    makers = {"chroma": lambda: chroma(rng), "wht": lambda: wht(rng, call), "lossless": lambda: lossless(rng, call)}
+    return makers.get(stream.CALLS[call].kind, lambda: blocks.case(call))()
 
 
 # Faults: each takes an accepted case and spoils it in one way. What comes of it, the model says.
@@ -353,7 +353,7 @@ def refused(rng, make):
 def random_cases(sort, count, seed):
     rng = random.Random(seed)
     blocks = Blocks(rng)
-    make = lambda: accepted(rng, blocks, rng.randint(1, 9))
+    make = lambda: accepted(rng, blocks, rng.choice(list(stream.CALLS)))
     return (make() if sort == "accepted" else refused(rng, make) for _ in range(count))
 
 

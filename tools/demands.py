@@ -11,17 +11,21 @@ import model
 import stream
 import tables
 from cases import RANGE, WHOLE
-from stream import Case
+from stream import CLAMPED, PIXEL_CALLS, Case, of_kind
 
 # A case and its answer; after is what the written slices hold then, None where only the answer is laid down.
 Demand = collections.namedtuple("Demand", "label case number slice place after", defaults=[0, 0, 0, None])
 
-PIXEL_CALLS = (1, 2, 3, 4)
+STRICT = tuple(call for call in PIXEL_CALLS if call not in CLAMPED)
 RECTANGULAR = (5, 6, 7, 8, 9, 10, 11, 12, 19, 20, 21, 22)
 SMALL_SIZE_OF_LENGTH = {4: (0, 0), 8: (6, 5), 16: (14, 13), 32: (20, 19), 64: (24, 23)}
 
 
 # Cases.
+
+
+def floats(call):
+    return stream.CALLS[call].kind == "recon"
 
 
 def lengths_of(size):
@@ -46,8 +50,8 @@ def add(call, depth=8, size=0, type=0, coefficients=None, plane=None, stride=Non
 
 
 def pixel(call, depth=8, size=0, type=0, coefficients=None, present=None):
-    """A case of calls 1 to 4; the samples before it are the prediction or the plane."""
-    return (recon if call <= 2 else add)(call, depth, size, type, coefficients, present)
+    """A case of a pixel call; the samples before it are the prediction or the plane."""
+    return (recon if floats(call) else add)(call, depth, size, type, coefficients, present)
 
 
 def chroma(u, v, depth=8, sine=0, cosine=256):
@@ -75,10 +79,10 @@ def with_number(count, index, value, others=0):
 
 
 def on_pixel_calls(label, size, type, index, value, pixels):
-    """One coefficient that is not zero, prediction 100: the same pixels by all four calls."""
+    """One coefficient that is not zero, prediction 100: the same pixels by every call."""
     for call in PIXEL_CALLS:
         case = pixel(call, 8, size, type, with_number(lengths_of(size)[0], index, value))
-        after = list(map(model.float_bits, pixels)) if call <= 2 else list(pixels)
+        after = list(map(model.float_bits, pixels)) if floats(call) else list(pixels)
         yield Demand(f"{label}, call {call}", case, after=[after])
 
 
@@ -115,8 +119,11 @@ def other_sums():
 
 
 def range_sums():
+    """Document 01's runs go to the clamping calls, by document 02, section 5, which has runs for the others."""
+    clamping = (5, RANGE[1] + 1, 7, 1), (5, RANGE[1]), (0, WHOLE[1])
+    strict = (0, 32_767), (0, -32_768), (0, 32_768, 7, 1), (0, -32_769, 7, 1)
     for call in PIXEL_CALLS:
-        for size, value, *refusal in ((5, RANGE[1] + 1, 7, 1), (5, RANGE[1]), (0, WHOLE[1])):
+        for size, value, *refusal in clamping if call in CLAMPED else strict:
             case = pixel(call, 8, size, 0, with_number(lengths_of(size)[0], 0, value))
             yield Demand(f"Run {value} at size {size}, call {call}", case, *refusal)
 
@@ -191,14 +198,32 @@ def several_short():
                 yield Demand(f"{label}, size {size}", Case(call, whole.arguments, slices), 6, lowest)
 
 
-def coefficient_ranges():
+def strict_ranges():
+    """Document 02, section 5: every size has the range of its depth."""
+    ends = {8: 32_768, 9: 65_536, 10: 131_072, 11: 262_144, 12: 524_288}
+    for depth, size in [*itertools.product(ends, (0, 5)), *((8 + size % 5, size) for size in range(25))]:
+        count, end, turn = lengths_of(size)[0], ends[depth], depth + size
+        for value, fits in ((end - 1, True), (end, False), (-end, True), (-end - 1, False)):
+            refusal = (0, 0, 0) if fits else (7, 1, count - 1)
+            call = STRICT[turn % len(STRICT)]
+            case = pixel(call, depth, size, 0, with_number(count, count - 1, value))
+            yield Demand(f"coefficient {value}, depth {depth}, size {size}", case, *refusal)
+    for call in STRICT:
+        for value, place in itertools.product((32_767, 32_768, -32_769, RANGE[1] + 1, *WHOLE), (0, 7, 31, 32)):
+            refusal = (7, 1, place) if value != 32_767 and place < 32 else (0, 0, 0)
+            case = pixel(call, size=5, coefficients=with_number(33, place, value))
+            yield Demand(f"coefficient {value} at {place} of 32", case, *refusal)
+
+
+def clamping_ranges():
+    """Document 01: a size that is scaled has a range, any other takes every number."""
     for size in range(25):
         count = lengths_of(size)[0]
-        for value in (RANGE[1] + 1, RANGE[0] - 1):
+        for value, call in ((RANGE[1] + 1, 16), (RANGE[0] - 1, 17)):
             refusal = (7, 1, count - 1) if size in RECTANGULAR else (0, 0, 0)
-            case = add(3 + (value < 0), size=size, coefficients=with_number(count, count - 1, value))
+            case = add(call, size=size, coefficients=with_number(count, count - 1, value))
             yield Demand(f"coefficient {value}, size {size}", case, *refusal)
-    for call in PIXEL_CALLS:
+    for call in CLAMPED:
         for value, place in itertools.product((*RANGE, *WHOLE), (0, 7, 31, 32)):
             refusal = (7, 1, place) if value in WHOLE and place < 32 else (0, 0, 0)
             case = pixel(call, size=5, coefficients=with_number(33, place, value))
@@ -218,14 +243,14 @@ def sample_ranges():
 
 def plane_pads():
     """Numbers between the width and the stride are not read."""
-    for call, value in itertools.product((3, 4), (-1, 256, *WHOLE)):
+    for call, value in itertools.product(of_kind("add"), (-1, 256, *WHOLE)):
         plane = [value if at % 7 >= 4 else 100 for at in range(32)]
         yield Demand("pads", add(call, stride=7, plane=plane))
         yield Demand("a sample among pads", add(call, stride=7, plane=plane[:24] + [value] + plane[25:]), 8, 2, 24)
 
 
 def add_strides():
-    for call in (3, 4):
+    for call in of_kind("add"):
         for stride in (4, 5, 300):
             yield Demand(f"stride {stride}", add(call, stride=stride))
         for stride in (0, 3, 65_537, 2**31, 2**32 + 4, 2**63, 2**64 - 4, 2**64 - 1):
@@ -406,24 +431,28 @@ def one_level_up(index, towards):
     return spoil
 
 
-BLOCK_FAULTS = [
-    Fault(1, 0, 0, argument(0, 7)),
-    Fault(1, 0, 0, argument(0, 13)),
-    Fault(2, 0, 0, argument(1, 25)),
-    Fault(3, 0, 0, in_type(256)),
-    Fault(4, 0, 0, in_type(4)),
-    Fault(4, 0, 1, in_type(6 << 5)),
-    Fault(6, 1, 0, shorter(0)),
-    Fault(6, 2, 0, shorter(1)),
-    Fault(7, 1, 3, number_at(0, 3, RANGE[1] + 1)),
-    Fault(7, 1, 2, number_at(0, 2, RANGE[0] - 1)),
-]
-RECON_FAULTS = BLOCK_FAULTS + [
+def block_faults(call):
+    low, high = RANGE if call in CLAMPED else (-32_768, 32_767)
+    return [
+        Fault(1, 0, 0, argument(0, 7)),
+        Fault(1, 0, 0, argument(0, 13)),
+        Fault(2, 0, 0, argument(1, 25)),
+        Fault(3, 0, 0, in_type(256)),
+        Fault(4, 0, 0, in_type(4)),
+        Fault(4, 0, 1, in_type(6 << 5)),
+        Fault(6, 1, 0, shorter(0)),
+        Fault(6, 2, 0, shorter(1)),
+        Fault(7, 1, 3, number_at(0, 3, high + 1)),
+        Fault(7, 1, 2, number_at(0, 2, low - 1)),
+    ]
+
+
+RECON_FAULTS = [
     Fault(6, 3, 0, shorter(2)),
     Fault(8, 2, 9, number_at(1, 9, 256)),
     Fault(8, 2, 6, number_at(1, 6, -1)),
 ]
-ADD_FAULTS = BLOCK_FAULTS + [
+ADD_FAULTS = [
     Fault(5, 0, 0, argument(3, 3)),
     Fault(5, 0, 0, argument(3, 65_537)),
     Fault(8, 2, 8, number_at(1, 8, 256)),
@@ -479,10 +508,10 @@ def spoilt(make, faults):
 
 
 def together():
-    for call in (1, 2):
-        yield from spoilt(lambda: recon(call, size=5), RECON_FAULTS)
-    for call in (3, 4):
-        yield from spoilt(lambda: add(call, size=5, stride=6), ADD_FAULTS)
+    for call in of_kind("recon"):
+        yield from spoilt(lambda: recon(call, size=5), [*block_faults(call), *RECON_FAULTS])
+    for call in of_kind("add"):
+        yield from spoilt(lambda: add(call, size=5, stride=6), [*block_faults(call), *ADD_FAULTS])
     yield from spoilt(lambda: chroma([0] * 4, [0] * 4), CHROMA_FAULTS)
     for call in (6, 7):
         yield from spoilt(lambda: wht(call, [0] * 16), WHT_FAULTS)
@@ -492,8 +521,8 @@ def together():
 
 
 def edges():
-    sections = (depths, sizes_and_types, kinds, pixel_lengths, several_short, coefficient_ranges, sample_ranges)
-    sections += (plane_pads, add_strides, chroma_edges, wht_edges, lossless_places, lossless_widths)
+    sections = (depths, sizes_and_types, kinds, pixel_lengths, several_short, strict_ranges, clamping_ranges)
+    sections += (sample_ranges, plane_pads, add_strides, chroma_edges, wht_edges, lossless_places, lossless_widths)
     sections += (lossless_pads, lossless_numbers, together)
     return [demand for section in sections for demand in section()]
 
@@ -505,7 +534,7 @@ def broken_streams():
     case = wht(6, [1] * 16)
     whole = stream.encode(case)
     word = stream.word
-    unknown = [word(call) for call in (0, 10, 255, 2**32 + 6, 2**63, 2**64 - 1)]
+    unknown = [word(call) for call in (0, 10, 13, 18, 255, 2**32 + 6, 2**63, 2**64 - 1)]
     ends = [whole[:count] for count in (1, 7, 8, 15, 16, 17, 79, 80, 87, 88, len(whole) - 1)]
     longer = [word(6) + word(length) for length in (20_001, 2**31, 2**32, 2**62, 2**63, 2**64 - 1)]
     longer.append(word(6) + word(20_001) + bytes(4 * 20_001) + word(16) + bytes(64))

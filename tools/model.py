@@ -164,11 +164,18 @@ def short_refusals(lengths):
             yield Answer(6, slice)
 
 
-def coefficient_refusals(size, coefficients):
-    if rectangular(size):
-        place = outside(coefficients[: used(size)[0]], -11_864_550, 11_864_549)
-        if place is not None:
-            yield Answer(7, READ, place)
+def coefficient_range(depth, size, clamping):
+    """The range that refusal 7 tests: document 02, section 5; for clamping calls document 01's, None where any number passes."""
+    if not clamping:
+        return -(2 ** (depth + 7)), 2 ** (depth + 7) - 1
+    return (-11_864_550, 11_864_549) if rectangular(size) else None
+
+
+def coefficient_refusals(depth, size, coefficients, clamping):
+    tested = coefficient_range(depth, size, clamping)
+    place = outside(coefficients[: used(size)[0]], *tested) if tested else None
+    if place is not None:
+        yield Answer(7, READ, place)
 
 
 def sample_refusals(depth, plane, stride, width, height, start=0):
@@ -179,17 +186,17 @@ def sample_refusals(depth, plane, stride, width, height, start=0):
             yield Answer(8, SAMPLES, at + place)
 
 
-def recon_refusals(depth, size, type, coefficients, prediction, output):
+def recon_refusals(depth, size, type, coefficients, prediction, output, clamping):
     yield from block_refusals(depth, size, type)
     w, h = width_and_height(size)
     lengths = {READ: (coefficients, used(size)[0]), SAMPLES: (prediction, w * h), OUTPUT: (output, w * h)}
     yield from short_refusals(lengths)
-    yield from coefficient_refusals(size, coefficients)
+    yield from coefficient_refusals(depth, size, coefficients, clamping)
     yield from sample_refusals(depth, prediction, w, w, h)
 
 
-def inv_txfm_recon_f32(depth, size, type, coefficients, prediction, output):
-    verdict = next(recon_refusals(depth, size, type, coefficients, prediction, output), DONE)
+def inv_txfm_recon_f32(depth, size, type, coefficients, prediction, output, clamping=False):
+    verdict = next(recon_refusals(depth, size, type, coefficients, prediction, output, clamping), DONE)
     if verdict == DONE:
         w, h = width_and_height(size)
         residual = [v for row in residuals(depth, size, type, coefficients) for v in row]
@@ -197,18 +204,18 @@ def inv_txfm_recon_f32(depth, size, type, coefficients, prediction, output):
     return verdict
 
 
-def add_refusals(depth, size, type, stride, coefficients, plane):
+def add_refusals(depth, size, type, stride, coefficients, plane, clamping):
     yield from block_refusals(depth, size, type)
     w, h = width_and_height(size)
     if not w <= stride <= 65_536:
         yield Answer(5)
     yield from short_refusals({READ: (coefficients, used(size)[0]), SAMPLES: (plane, (h - 1) * stride + w)})
-    yield from coefficient_refusals(size, coefficients)
+    yield from coefficient_refusals(depth, size, coefficients, clamping)
     yield from sample_refusals(depth, plane, stride, w, h)
 
 
-def inv_txfm_add(depth, size, type, stride, coefficients, plane):
-    verdict = next(add_refusals(depth, size, type, stride, coefficients, plane), DONE)
+def inv_txfm_add(depth, size, type, stride, coefficients, plane, clamping=False):
+    verdict = next(add_refusals(depth, size, type, stride, coefficients, plane, clamping), DONE)
     if verdict == DONE:
         w = width_and_height(size)[0]
         for y, row in enumerate(residuals(depth, size, type, coefficients)):
@@ -369,6 +376,10 @@ CALLS = {
     7: iwht4x4,
     8: lossless_step,
     9: lossless_undo,
+    14: functools.partial(inv_txfm_recon_f32, clamping=True),
+    15: functools.partial(inv_txfm_recon_f32, clamping=True),
+    16: functools.partial(inv_txfm_add, clamping=True),
+    17: functools.partial(inv_txfm_add, clamping=True),
 }
 
 

@@ -12,7 +12,8 @@ import sys
 LIMIT = 20_000
 BROKEN = struct.pack("<Q", 2**64 - 1)
 
-Call = collections.namedtuple("Call", "name arguments slices written")
+# A kind is what calls have in common that differ in lanes, order or range.
+Call = collections.namedtuple("Call", "name kind arguments slices written")
 Case = collections.namedtuple("Case", "call arguments slices")
 
 # Number 0 is Done, slice 0 none; the order is that of the record that a call returns.
@@ -23,29 +24,43 @@ class Broken(Exception):
     """The stream breaks its rules from here on."""
 
 
-def _float(name):
-    return Call(name, ("depth", "size", "type"), ("coefficients", "prediction", "output"), (2,))
+def _recon(name):
+    return Call(name, "recon", ("depth", "size", "type"), ("coefficients", "prediction", "output"), (2,))
 
 
 def _add(name):
-    return Call(name, ("depth", "size", "type", "stride"), ("coefficients", "plane"), (1,))
+    return Call(name, "add", ("depth", "size", "type", "stride"), ("coefficients", "plane"), (1,))
 
 
 def _lossless(name):
-    return Call(name, ("depth", "stride", "width", "row", "column"), ("levels", "plane"), (1,))
+    return Call(name, "lossless", ("depth", "stride", "width", "row", "column"), ("levels", "plane"), (1,))
 
 
 CALLS = {
-    1: _float("inv_txfm_recon_f32"),
-    2: _float("inv_txfm_recon_f32, four lanes"),
+    1: _recon("inv_txfm_recon_f32"),
+    2: _recon("inv_txfm_recon_f32, four lanes"),
     3: _add("inv_txfm_add"),
     4: _add("inv_txfm_add, four lanes"),
-    5: Call("cctx", ("depth", "sine", "cosine"), ("u", "v"), (0, 1)),
-    6: Call("fwht4x4", (), ("residuals", "levels"), (1,)),
-    7: Call("iwht4x4", (), ("levels", "residuals"), (1,)),
+    5: Call("cctx", "chroma", ("depth", "sine", "cosine"), ("u", "v"), (0, 1)),
+    6: Call("fwht4x4", "wht", (), ("residuals", "levels"), (1,)),
+    7: Call("iwht4x4", "wht", (), ("levels", "residuals"), (1,)),
     8: _lossless("lossless_step"),
     9: _lossless("lossless_undo"),
+    14: _recon("inv_txfm_recon_f32_clamped"),
+    15: _recon("inv_txfm_recon_f32_clamped, four lanes"),
+    16: _add("inv_txfm_add_clamped"),
+    17: _add("inv_txfm_add_clamped, four lanes"),
 }
+
+CLAMPED = (14, 15, 16, 17)
+
+
+def of_kind(*kinds):
+    """The calls of some kinds, in order."""
+    return tuple(number for number, call in sorted(CALLS.items()) if call.kind in kinds)
+
+
+PIXEL_CALLS = of_kind("recon", "add")
 
 
 def word(value):

@@ -1,4 +1,4 @@
-/* The nine calls of panel.h from C: the sums of document 01, each refusal of each call with its slice, null pointers with
+/* The calls of panel.h from C: the sums of document 01, each refusal of each call with its slice, null pointers with
    count 0, the longest plane; and the sentences of panel_words.h. What is expected is the text of documents 01 and 02, never
    an answer of the library. The last line is 'N passed, N failed'. */
 #include "panel.h"
@@ -69,11 +69,20 @@ static const struct pixel_form {
     const char *name;
     add_call *add;
     float_call *floats;
+    int clamps;
 } forms[] = {
-    {"panel_inv_txfm_add", panel_inv_txfm_add, NULL},
-    {"panel_inv_txfm_add_lanes", panel_inv_txfm_add_lanes, NULL},
-    {"panel_inv_txfm_recon_f32", NULL, panel_inv_txfm_recon_f32},
-    {"panel_inv_txfm_recon_f32_lanes", NULL, panel_inv_txfm_recon_f32_lanes},
+#define ADD(name, clamps) {#name, name, NULL, clamps}
+#define RECON(name, clamps) {#name, NULL, name, clamps}
+    ADD(panel_inv_txfm_add, 0),
+    ADD(panel_inv_txfm_add_lanes, 0),
+    ADD(panel_inv_txfm_add_clamped, 1),
+    ADD(panel_inv_txfm_add_clamped_lanes, 1),
+    RECON(panel_inv_txfm_recon_f32, 0),
+    RECON(panel_inv_txfm_recon_f32_lanes, 0),
+    RECON(panel_inv_txfm_recon_f32_clamped, 1),
+    RECON(panel_inv_txfm_recon_f32_clamped_lanes, 1),
+#undef ADD
+#undef RECON
 };
 
 static panel_answer pixels(const struct pixel_form *f, struct pixel_arguments a) {
@@ -136,7 +145,26 @@ static void refuse(const struct pixel_form *f, struct pixel_arguments a, uint32_
     fresh();
 }
 
+/* Size 0: document 01 has 2,147,483,647 for a clamping call; document 02, section 5, has the ends of each depth for the others. */
+static void coefficient_ends(const struct pixel_form *f) {
+    struct pixel_arguments a = usual;
+    a.tx = 0;
+    for (a.depth = 8; a.depth <= 12; a.depth++) {
+        const int32_t end = 128 << a.depth;
+        now.coeff[0] = f->clamps ? 2147483647 : end - 1;
+        now.coeff[15] = f->clamps ? -2147483647 - 1 : -end;
+        expect(done(pixels(f, a)), f->name, "size 0 takes both ends of the range");
+        fresh();
+        if (f->clamps) continue;
+        now.coeff[7] = end;
+        refuse(f, a, 7, 1, 7, "size 0, a coefficient above the range");
+        now.coeff[15] = -end - 1;
+        refuse(f, a, 7, 1, 15, "size 0, a coefficient below the range");
+    }
+}
+
 static void pixel_refusals(const struct pixel_form *f) {
+    const int32_t low = f->clamps ? -11864550 : -32768, high = f->clamps ? 11864549 : 32767;
     struct pixel_arguments a;
     fresh();
 #define WITH(field, value, number, slice, place, what) a = usual, a.field = value, refuse(f, a, number, slice, place, what)
@@ -162,17 +190,17 @@ static void pixel_refusals(const struct pixel_form *f) {
     a.coeff_len = 31;
     refuse(f, a, 6, 1, 0, "all buffers short");
     a = usual;
-    now.coeff[3] = 11864550;
-    refuse(f, a, 7, 1, 3, "a coefficient of 11,864,550");
-    now.coeff[30] = -11864551;
-    now.coeff[31] = 11864550;
-    refuse(f, a, 7, 1, 30, "a coefficient of -11,864,551");
+    now.coeff[3] = high + 1;
+    refuse(f, a, 7, 1, 3, "a coefficient above the range");
+    now.coeff[30] = low - 1;
+    now.coeff[31] = high + 1;
+    refuse(f, a, 7, 1, 30, "a coefficient below the range");
     now.plane[19] = now.pred[19] = 256;
     now.plane[20] = now.pred[20] = -1;
     refuse(f, a, 8, 2, 19, "a sample of 256");
     now.plane[66] = now.pred[31] = -1;
     refuse(f, a, 8, 2, f->add ? 66 : 31, "a last sample of -1");
-    now.coeff[31] = 11864550;
+    now.coeff[31] = high + 1;
     now.plane[0] = now.pred[0] = 256;
     refuse(f, a, 7, 1, 31, "a coefficient before a sample");
     a.depth = 7;
@@ -180,12 +208,10 @@ static void pixel_refusals(const struct pixel_form *f) {
     refuse(f, a, 1, 0, 0, "a depth before a size");
 #undef WITH
     a = usual;
-    now.coeff[0] = 11864549;
-    expect(done(pixels(f, a)), f->name, "size 5 takes 11,864,549");
+    now.coeff[0] = high, now.coeff[31] = low;
+    expect(done(pixels(f, a)), f->name, "size 5 takes both ends of the range");
     fresh();
-    a.tx = 0;
-    now.coeff[0] = 2147483647;
-    expect(done(pixels(f, a)), f->name, "size 0 takes 2,147,483,647");
+    coefficient_ends(f);
     panel_answer nothing = f->add ? f->add(NULL, 0, 9, NULL, 0, 0, 5, 8) : f->floats(NULL, 0, NULL, 0, 0, 5, 8, NULL, 0);
     expect(is(nothing, 6, 1, 0), f->name, "null pointers");
 }
@@ -438,8 +464,8 @@ static void longest_plane(void) {
     expect(plane != MAP_FAILED, "mmap", "room for the longest plane");
     if (plane == MAP_FAILED) return;
     last_rows(plane);
-    widest_stride(panel_inv_txfm_add, "panel_inv_txfm_add", plane);
-    widest_stride(panel_inv_txfm_add_lanes, "panel_inv_txfm_add_lanes", plane);
+    for (size_t f = 0; f < sizeof forms / sizeof *forms; f++)
+        if (forms[f].add) widest_stride(forms[f].add, forms[f].name, plane);
     munmap(plane, BYTES);
 }
 
