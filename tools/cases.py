@@ -90,7 +90,7 @@ def coefficient_range(call, depth, size):
     return model.coefficient_range(depth, size, call in stream.CLAMPED) or WHOLE
 
 
-# Patterns of coefficients within some ends, for a size and its two kinds.
+# Patterns of coefficients within some ends, for a size and its two kinds, in column order.
 
 
 def single(rng, ends, size, *_):
@@ -162,6 +162,8 @@ def block(rng, call, depth, size, horizontal, vertical, room=stream.LIMIT):
     w, h = model.width_and_height(size)
     type = horizontal | rng.choice((0, 0, rng.randrange(4))) << 3 | vertical << 5
     coefficients = rng.choice(PATTERNS)(rng, coefficient_range(call, depth, size), size, horizontal, vertical)
+    if call in stream.ROWS:
+        coefficients = model.row_by_row(size, coefficients)
     coefficients += extra(rng, room - len(coefficients))
     if stream.CALLS[call].kind == "recon":
         spare = room - w * h

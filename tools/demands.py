@@ -11,7 +11,7 @@ import model
 import stream
 import tables
 from cases import RANGE, WHOLE
-from stream import CLAMPED, PIXEL_CALLS, Case, of_kind
+from stream import CLAMPED, PIXEL_CALLS, ROWS, Case, of_kind
 
 # A case and its answer; after is what the written slices hold then, None where only the answer is laid down.
 Demand = collections.namedtuple("Demand", "label case number slice place after", defaults=[0, 0, 0, None])
@@ -78,9 +78,16 @@ def with_number(count, index, value, others=0):
 # The sums of document 01.
 
 
-def on_pixel_calls(label, size, type, index, value, pixels):
-    """One coefficient that is not zero, prediction 100: the same pixels by every call."""
+def index_of(call, size, row, column):
+    """Where a call finds the coefficient of a row and column: document 01, and for the row order document 02, section 1."""
+    count, w, h = lengths_of(size)
+    return row * min(w, 32) + column if call in ROWS else row + column * min(h, 32)
+
+
+def on_pixel_calls(label, size, type, place, value, pixels):
+    """One coefficient that is not zero, by its row and column, prediction 100: the same pixels by every call."""
     for call in PIXEL_CALLS:
+        index = index_of(call, size, *place)
         case = pixel(call, 8, size, type, with_number(lengths_of(size)[0], index, value))
         after = list(map(model.float_bits, pixels)) if floats(call) else list(pixels)
         yield Demand(f"{label}, call {call}", case, after=[after])
@@ -88,16 +95,16 @@ def on_pixel_calls(label, size, type, index, value, pixels):
 
 def pixel_sums():
     row = [100] * 4
-    yield from on_pixel_calls("P1", 0, 0, 0, 15, [101] * 16)
-    yield from on_pixel_calls("P2", 0, 0, 0, 14, [100] * 16)
-    yield from on_pixel_calls("P3", 0, 0, 0, -18, [99] * 16)
-    yield from on_pixel_calls("P4", 0, 0, 0, -17, [100] * 16)
-    yield from on_pixel_calls("P5", 19, 0, 0, 256, [103] * 128)
-    yield from on_pixel_calls("P6", 0, 34, 0, 128, [102, 106, 109, 111] + 3 * row)
-    yield from on_pixel_calls("P7", 0, 35, 4, 128, [109, 98, 89, 94] + 3 * row)
-    yield from on_pixel_calls("P8", 5, 33, 1, 256, row + [132] + [100] * 27)
-    yield from on_pixel_calls("Run 64 at size 4", 4, 0, 0, 64, [101] * 4096)
-    yield from on_pixel_calls("Run 63 at size 4", 4, 0, 0, 63, [100] * 4096)
+    yield from on_pixel_calls("P1", 0, 0, (0, 0), 15, [101] * 16)
+    yield from on_pixel_calls("P2", 0, 0, (0, 0), 14, [100] * 16)
+    yield from on_pixel_calls("P3", 0, 0, (0, 0), -18, [99] * 16)
+    yield from on_pixel_calls("P4", 0, 0, (0, 0), -17, [100] * 16)
+    yield from on_pixel_calls("P5", 19, 0, (0, 0), 256, [103] * 128)
+    yield from on_pixel_calls("P6", 0, 34, (0, 0), 128, [102, 106, 109, 111] + 3 * row)
+    yield from on_pixel_calls("P7", 0, 35, (0, 1), 128, [109, 98, 89, 94] + 3 * row)
+    yield from on_pixel_calls("P8", 5, 33, (1, 0), 256, row + [132] + [100] * 27)
+    yield from on_pixel_calls("Run 64 at size 4", 4, 0, (0, 0), 64, [101] * 4096)
+    yield from on_pixel_calls("Run 63 at size 4", 4, 0, (0, 0), 63, [100] * 4096)
 
 
 def other_sums():
@@ -213,6 +220,21 @@ def strict_ranges():
             refusal = (7, 1, place) if value != 32_767 and place < 32 else (0, 0, 0)
             case = pixel(call, size=5, coefficients=with_number(33, place, value))
             yield Demand(f"coefficient {value} at {place} of 32", case, *refusal)
+
+
+def orders():
+    """Document 02, section 1: what number 1 and number sw are in each order, and where refusal 7 finds them. Size 5 is 4x8."""
+    for call in STRICT:
+        across, down = (1, 4) if call in ROWS else (8, 1)
+        numbers = with_number(32, across, 32_768)
+        numbers[down] = -32_769
+        place = min(across, down)
+        yield Demand("two out of range", pixel(call, size=5, coefficients=numbers), 7, 1, place)
+        plane = [100] * 32
+        plane[4] = 132
+        after = list(map(model.float_bits, plane)) if floats(call) else plane
+        case = pixel(call, size=5, type=33, coefficients=with_number(32, down, 256))
+        yield Demand("row 1, column 0", case, after=[after])
 
 
 def clamping_ranges():
@@ -521,7 +543,7 @@ def together():
 
 
 def edges():
-    sections = (depths, sizes_and_types, kinds, pixel_lengths, several_short, strict_ranges, clamping_ranges)
+    sections = (depths, sizes_and_types, kinds, pixel_lengths, several_short, strict_ranges, orders, clamping_ranges)
     sections += (sample_ranges, plane_pads, add_strides, chroma_edges, wht_edges, lossless_places, lossless_widths)
     sections += (lossless_pads, lossless_numbers, together)
     return [demand for section in sections for demand in section()]
@@ -534,7 +556,7 @@ def broken_streams():
     case = wht(6, [1] * 16)
     whole = stream.encode(case)
     word = stream.word
-    unknown = [word(call) for call in (0, 10, 13, 18, 255, 2**32 + 6, 2**63, 2**64 - 1)]
+    unknown = [word(call) for call in (0, 18, 255, 2**32 + 6, 2**63, 2**64 - 1)]
     ends = [whole[:count] for count in (1, 7, 8, 15, 16, 17, 79, 80, 87, 88, len(whole) - 1)]
     longer = [word(6) + word(length) for length in (20_001, 2**31, 2**32, 2**62, 2**63, 2**64 - 1)]
     longer.append(word(6) + word(20_001) + bytes(4 * 20_001) + word(16) + bytes(64))

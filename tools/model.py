@@ -90,6 +90,19 @@ def rectangular(size):
     return (w.bit_length() + h.bit_length()) % 2 == 1
 
 
+def row_by_row(size, coefficients):
+    """The numbers that a size uses: row r, column x of a list in column order becomes number r * sw + x."""
+    count, sh = used(size)
+    return [coefficients[at] for r in range(sh) for at in range(r, count, sh)]
+
+
+def column_by_column(size, coefficients):
+    """The same the other way: row r, column x of a list in row order becomes number r + x * sh."""
+    count, sh = used(size)
+    sw = count // sh
+    return [coefficients[at] for x in range(sw) for at in range(x, count, sw)]
+
+
 def load(depth, size, coefficients):
     """The rows that enter the horizontal kernel."""
     count, sh = used(size)
@@ -195,11 +208,12 @@ def recon_refusals(depth, size, type, coefficients, prediction, output, clamping
     yield from sample_refusals(depth, prediction, w, w, h)
 
 
-def inv_txfm_recon_f32(depth, size, type, coefficients, prediction, output, clamping=False):
+def inv_txfm_recon_f32(depth, size, type, coefficients, prediction, output, clamping=False, rows=False):
     verdict = next(recon_refusals(depth, size, type, coefficients, prediction, output, clamping), DONE)
     if verdict == DONE:
         w, h = width_and_height(size)
-        residual = [v for row in residuals(depth, size, type, coefficients) for v in row]
+        in_columns = column_by_column(size, coefficients) if rows else coefficients
+        residual = [v for row in residuals(depth, size, type, in_columns) for v in row]
         output[: w * h] = map(float_bits, pixels(depth, prediction, residual))
     return verdict
 
@@ -214,11 +228,12 @@ def add_refusals(depth, size, type, stride, coefficients, plane, clamping):
     yield from sample_refusals(depth, plane, stride, w, h)
 
 
-def inv_txfm_add(depth, size, type, stride, coefficients, plane, clamping=False):
+def inv_txfm_add(depth, size, type, stride, coefficients, plane, clamping=False, rows=False):
     verdict = next(add_refusals(depth, size, type, stride, coefficients, plane, clamping), DONE)
     if verdict == DONE:
         w = width_and_height(size)[0]
-        for y, row in enumerate(residuals(depth, size, type, coefficients)):
+        in_columns = column_by_column(size, coefficients) if rows else coefficients
+        for y, row in enumerate(residuals(depth, size, type, in_columns)):
             at = y * stride
             plane[at : at + w] = pixels(depth, plane[at : at + w], row)
     return verdict
@@ -376,6 +391,10 @@ CALLS = {
     7: iwht4x4,
     8: lossless_step,
     9: lossless_undo,
+    10: functools.partial(inv_txfm_recon_f32, rows=True),
+    11: functools.partial(inv_txfm_recon_f32, rows=True),
+    12: functools.partial(inv_txfm_add, rows=True),
+    13: functools.partial(inv_txfm_add, rows=True),
     14: functools.partial(inv_txfm_recon_f32, clamping=True),
     15: functools.partial(inv_txfm_recon_f32, clamping=True),
     16: functools.partial(inv_txfm_add, clamping=True),

@@ -7,6 +7,7 @@ import shutil
 import subprocess
 
 import stream
+import tables
 
 ROOT = pathlib.Path(__file__).resolve().parent.parent
 
@@ -60,13 +61,22 @@ def run(command, data):
 
 
 # The calls that the Rust has, each with the number under which tools/oracle has it. It clamps coefficients: so its answers
-# are those of the clamping calls, and of the others on what they accept.
-RUST_CALLS = {1: 1, 2: 2, 3: 3, 4: 4, 5: 5, 6: 6, 14: 1, 15: 2, 16: 3, 17: 4}
+# are those of the clamping calls, and of the others on what they accept. It reads them column by column.
+RUST_CALLS = {1: 1, 2: 2, 3: 3, 4: 4, 5: 5, 6: 6, 14: 1, 15: 2, 16: 3, 17: 4, 10: 1, 11: 2, 12: 3, 13: 4}
+
+
+def in_columns(size, coefficients):
+    """Coefficients in row order, turned: row r, column x is number r * sw + x, and becomes number r + x * sh."""
+    sw, sh = (min(side, 32) for side in tables.SIZES[size][:2])
+    return [coefficients[r * sw + x] for x in range(sw) for r in range(sh)]
 
 
 def for_rust(case):
     """A case of the Rust's own with the same answer, given that it is accepted."""
-    return stream.Case(RUST_CALLS[case.call], case.arguments, case.slices)
+    coefficients, *others = case.slices
+    if case.call in stream.ROWS:
+        coefficients = in_columns(case.arguments[1], coefficients)
+    return stream.Case(RUST_CALLS[case.call], case.arguments, [coefficients, *others])
 
 
 def answers(command, cases):

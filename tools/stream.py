@@ -46,6 +46,10 @@ CALLS = {
     7: Call("iwht4x4", "wht", (), ("levels", "residuals"), (1,)),
     8: _lossless("lossless_step"),
     9: _lossless("lossless_undo"),
+    10: _recon("inv_txfm_recon_f32_rows"),
+    11: _recon("inv_txfm_recon_f32_rows, four lanes"),
+    12: _add("inv_txfm_add_rows"),
+    13: _add("inv_txfm_add_rows, four lanes"),
     14: _recon("inv_txfm_recon_f32_clamped"),
     15: _recon("inv_txfm_recon_f32_clamped, four lanes"),
     16: _add("inv_txfm_add_clamped"),
@@ -53,6 +57,7 @@ CALLS = {
 }
 
 CLAMPED = (14, 15, 16, 17)
+ROWS = (10, 11, 12, 13)
 
 
 def of_kind(*kinds):

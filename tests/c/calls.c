@@ -69,18 +69,22 @@ static const struct pixel_form {
     const char *name;
     add_call *add;
     float_call *floats;
-    int clamps;
+    int clamps, rows;
 } forms[] = {
-#define ADD(name, clamps) {#name, name, NULL, clamps}
-#define RECON(name, clamps) {#name, NULL, name, clamps}
-    ADD(panel_inv_txfm_add, 0),
-    ADD(panel_inv_txfm_add_lanes, 0),
-    ADD(panel_inv_txfm_add_clamped, 1),
-    ADD(panel_inv_txfm_add_clamped_lanes, 1),
-    RECON(panel_inv_txfm_recon_f32, 0),
-    RECON(panel_inv_txfm_recon_f32_lanes, 0),
-    RECON(panel_inv_txfm_recon_f32_clamped, 1),
-    RECON(panel_inv_txfm_recon_f32_clamped_lanes, 1),
+#define ADD(name, clamps, rows) {#name, name, NULL, clamps, rows}
+#define RECON(name, clamps, rows) {#name, NULL, name, clamps, rows}
+    ADD(panel_inv_txfm_add, 0, 0),
+    ADD(panel_inv_txfm_add_lanes, 0, 0),
+    ADD(panel_inv_txfm_add_rows, 0, 1),
+    ADD(panel_inv_txfm_add_rows_lanes, 0, 1),
+    ADD(panel_inv_txfm_add_clamped, 1, 0),
+    ADD(panel_inv_txfm_add_clamped_lanes, 1, 0),
+    RECON(panel_inv_txfm_recon_f32, 0, 0),
+    RECON(panel_inv_txfm_recon_f32_lanes, 0, 0),
+    RECON(panel_inv_txfm_recon_f32_rows, 0, 1),
+    RECON(panel_inv_txfm_recon_f32_rows_lanes, 0, 1),
+    RECON(panel_inv_txfm_recon_f32_clamped, 1, 0),
+    RECON(panel_inv_txfm_recon_f32_clamped_lanes, 1, 0),
 #undef ADD
 #undef RECON
 };
@@ -93,35 +97,35 @@ static panel_answer pixels(const struct pixel_form *f, struct pixel_arguments a)
 /* Depth 8, prediction 100, one coefficient: the pixels are `rest`, but for the first `count` of row `row`. */
 static const struct sum {
     const char *name;
-    size_t tx, w, h, txtp, index;
+    size_t tx, w, h, txtp, r, x; /* the coefficient's row and column */
     int32_t value, rest;
     size_t row, count;
     int32_t first[4];
 } sums[] = {
-    {"P1", 0, 4, 4, 0, 0, 15, 101, 0, 0, {0}},
-    {"P2", 0, 4, 4, 0, 0, 14, 100, 0, 0, {0}},
-    {"P3", 0, 4, 4, 0, 0, -18, 99, 0, 0, {0}},
-    {"P4", 0, 4, 4, 0, 0, -17, 100, 0, 0, {0}},
-    {"P5", 19, 4, 32, 0, 0, 256, 103, 0, 0, {0}},
-    {"P6", 0, 4, 4, 34, 0, 128, 100, 0, 4, {102, 106, 109, 111}},
-    {"P7", 0, 4, 4, 35, 4, 128, 100, 0, 4, {109, 98, 89, 94}},
-    {"P8", 5, 4, 8, 33, 1, 256, 100, 1, 1, {132}},
-    {"64x64, number 0 = 64", 4, 64, 64, 0, 0, 64, 101, 0, 0, {0}},
-    {"64x64, number 0 = 63", 4, 64, 64, 0, 0, 63, 100, 0, 0, {0}},
+    {"P1", 0, 4, 4, 0, 0, 0, 15, 101, 0, 0, {0}},
+    {"P2", 0, 4, 4, 0, 0, 0, 14, 100, 0, 0, {0}},
+    {"P3", 0, 4, 4, 0, 0, 0, -18, 99, 0, 0, {0}},
+    {"P4", 0, 4, 4, 0, 0, 0, -17, 100, 0, 0, {0}},
+    {"P5", 19, 4, 32, 0, 0, 0, 256, 103, 0, 0, {0}},
+    {"P6", 0, 4, 4, 34, 0, 0, 128, 100, 0, 4, {102, 106, 109, 111}},
+    {"P7", 0, 4, 4, 35, 0, 1, 128, 100, 0, 4, {109, 98, 89, 94}},
+    {"P8", 5, 4, 8, 33, 1, 0, 256, 100, 1, 1, {132}},
+    {"64x64, number 0 = 64", 4, 64, 64, 0, 0, 0, 64, 101, 0, 0, {0}},
+    {"64x64, number 0 = 63", 4, 64, 64, 0, 0, 0, 63, 100, 0, 0, {0}},
 };
 
 /* A plane three wider than the block, and numbers beyond those used, which no sample may be: neither read nor written. */
 static void try_sum(const struct pixel_form *f, const struct sum *s) {
     const int32_t pad = -12345;
     size_t cells = s->w * s->h, stride = s->w + 3, reach = (s->h - 1) * stride + s->w;
-    size_t used = (s->w < 32 ? s->w : 32) * (s->h < 32 ? s->h : 32);
+    size_t sw = s->w < 32 ? s->w : 32, sh = s->h < 32 ? s->h : 32, used = sw * sh;
     struct pixel_arguments a = {used + 5, s->txtp, s->tx, stride, reach + 5, cells + 5, cells + 5, 8};
     fresh();
     fill(now.plane, reach + 5, pad);
     fill(now.pred + cells, 5, pad);
     fill(now.coeff + used, 5, 2147483647);
     for (size_t r = 0; r < s->h; r++) fill(now.plane + r * stride, s->w, 100);
-    now.coeff[s->index] = s->value;
+    now.coeff[f->rows ? s->r * sw + s->x : s->r + s->x * sh] = s->value;
     before = now;
     for (size_t r = 0; r < s->h; r++) {
         for (size_t x = 0; x < s->w; x++) {
