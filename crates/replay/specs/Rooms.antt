@@ -1,14 +1,21 @@
 -- The rooms in which a case is kept: bytes on their way in and out, three slices of numbers, and floats. Definitions only.
---     Roomy      each room has place for the longest slice of a stream, 20,000 numbers of four bytes each
---     Fitting    slices whose bytes fit the room for bytes
+--     ByteRoom, Room     a room has place for the longest slice of a stream, 20,000 numbers of four bytes each
+--     Roomy              every room has
+--     Kept               a slice that was read: its bytes fit the room for bytes
 use mathlib.Core.List.{List}
 use Prim.Native.Nat.{ℕ, _*_, _≤_}
 use lib.Ieee.{Float}
 use lib.IntN.{ℤ}
 use lib.ListN.{length}
 
-abbrev pub Roomy : List ℕ → List ℤ → List ℤ → List ℤ → List Float → Type 0
-Roomy bytes a b c f = (80000 ≤ length bytes) × (20000 ≤ length a) × (20000 ≤ length b) × (20000 ≤ length c) × (20000 ≤ length f)
+abbrev pub ByteRoom : List ℕ → Type 0
+ByteRoom bytes = 80000 ≤ length bytes
 
-abbrev pub Fitting : List ℕ → List ℤ → List ℤ → List ℤ → Type 0
-Fitting bytes a b c = (4 * length a ≤ length bytes) × (4 * length b ≤ length bytes) × (4 * length c ≤ length bytes)
+abbrev pub Room : {A : Type 0} → List A → Type 0
+Room list = 20000 ≤ length list
+
+abbrev pub Roomy : List ℕ → List ℤ → List ℤ → List ℤ → List Float → Type 0
+Roomy bytes a b c f = ByteRoom bytes × Room a × Room b × Room c × Room f
+
+abbrev pub Kept : List ℕ → List ℤ → Type 0
+Kept bytes list = 4 * length list ≤ length bytes

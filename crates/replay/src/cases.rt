@@ -1,59 +1,118 @@
-// One case of the stream: read, run and answered.
-ghost use Prim.Native.Nat.{_≤_};
+// One case of the stream: read, run and answered. Each function reads one slice and hands on what was read, so that no proof
+// speaks of two. All say whether to go on.
 ghost use mathlib.Core.Path.{_≡_};
 ghost use lib.ListN.{length};
-ghost use Rattle.replay.specs.Rooms.{Roomy, Fitting};
+ghost use Rattle.replay.specs.Rooms.{ByteRoom, Room, Roomy, Kept};
 use crate::calls;
-use crate::stream;
+use stream::slices;
 
 // A stream that breaks the rules is answered with this word, and nothing more.
 fn broken() -> bool {
-    stream::write_word(18446744073709551615);
+    slices::write_word(18446744073709551615);
     false
 }
 
-// Writes the slices that a call writes.
-fn write_slices(call: u64, bytes: &mut [u8], a: &[i32], b: &[i32], c: &[i32]) -> bool
-    requires { ⌜ Fitting (now bytes) (now a) (now b) (now c) ⌝ }
+// Runs and answers a case of two slices.
+fn answer(call: u64, words: [u64; 6], bytes: &mut [u8], a: &mut [i32], b: &mut [i32]) -> bool
+    requires { ⌜ Kept (now bytes) (now a) × Kept (now bytes) (now b) ⌝ }
 {
-    match call {
-        1 | 2 => stream::write_slice(bytes, c),
-        5 => stream::write_slice(bytes, a) && stream::write_slice(bytes, b),
-        _ => stream::write_slice(bytes, b),
+    let r = calls::run(call, words, a, b);
+    if !slices::write_answer(r) {
+        return false;
     }
+    if calls::writes_first(call) && !slices::write_slice(bytes, a) {
+        return false;
+    }
+    slices::write_slice(bytes, b)
 }
 
-// Runs a case that is there whole, and answers it: whether to go on.
-fn answer(
+// Runs and answers a case whose third slice are floats.
+fn answer_floats(
     call: u64,
-    words: [u64; 5],
+    words: [u64; 6],
+    bytes: &mut [u8],
+    a: &[i32],
+    b: &[i32],
+    c: &mut [i32],
+    f: &mut [f32],
+) -> bool
+    requires { ⌜ Kept (now bytes) (now c) × (length (now c) ≡ length (now f)) ⌝ }
+{
+    let r = calls::run_floats(call, words, a, b, c, f);
+    slices::write_answer(r) && slices::write_slice(bytes, c)
+}
+
+// Reads the third slice of a case, the bits of floats.
+fn third(
+    call: u64,
+    words: [u64; 6],
+    bytes: &mut [u8],
+    a: &[i32],
+    b: &[i32],
+    c: &mut [i32],
+    f: &mut [f32],
+) -> bool
+    requires { ⌜ ByteRoom (now bytes) × Room (now c) × Room (now f) ⌝ }
+{
+    let n = slices::read_slice(bytes, c);
+    if slices::LIMIT < n {
+        return broken();
+    }
+    answer_floats(call, words, bytes, a, b, &mut c[..n], &mut f[..n])
+}
+
+// Reads the second and last slice of a case.
+fn last(call: u64, words: [u64; 6], bytes: &mut [u8], a: &mut [i32], b: &mut [i32]) -> bool
+    requires { ⌜ ByteRoom (now bytes) × Kept (now bytes) (now a) × Room (now b) ⌝ }
+{
+    let n = slices::read_slice(bytes, b);
+    if slices::LIMIT < n {
+        return broken();
+    }
+    answer(call, words, bytes, a, &mut b[..n])
+}
+
+// Reads the second slice of a case that has three.
+fn second(
+    call: u64,
+    words: [u64; 6],
+    bytes: &mut [u8],
+    a: &[i32],
+    b: &mut [i32],
+    c: &mut [i32],
+    f: &mut [f32],
+) -> bool
+    requires { ⌜ ByteRoom (now bytes) × Room (now b) × Room (now c) × Room (now f) ⌝ }
+{
+    let n = slices::read_slice(bytes, b);
+    if slices::LIMIT < n {
+        return broken();
+    }
+    third(call, words, bytes, a, &b[..n], c, f)
+}
+
+// Goes on to the other slices of a case.
+fn others(
+    call: u64,
+    words: [u64; 6],
     bytes: &mut [u8],
     a: &mut [i32],
     b: &mut [i32],
     c: &mut [i32],
     f: &mut [f32],
 ) -> bool
-    requires { ⌜ Fitting (now bytes) (now a) (now b) (now c) ⌝ }
-    requires { ⌜ length (now c) ≡ length (now f) ⌝ }
+    requires { ⌜ ByteRoom (now bytes) × Kept (now bytes) (now a) × Room (now b) × Room (now c) × Room (now f) ⌝ }
 {
-    let r = calls::run(call, words, a, b, c, f);
-    stream::write_answer(r) && write_slices(call, bytes, a, b, c)
-}
-
-// Reads the third slice of a call that has one, as read_slice does.
-fn read_third(call: u64, bytes: &mut [u8], c: &mut [i32]) -> usize
-    requires { ⌜ (80000 ≤ length (now bytes)) × (20000 ≤ length (now c)) ⌝ }
-{
-    match call {
-        1 | 2 => stream::read_slice(bytes, c),
-        _ => 0,
+    if calls::floating(call) {
+        return second(call, words, bytes, a, b, c, f);
     }
+    last(call, words, bytes, a, b)
 }
 
-// Reads a case's slices, and answers it: whether to go on.
-fn slices(
+// Reads the first slice of a case.
+fn first(
     call: u64,
-    words: [u64; 5],
+    words: [u64; 6],
     bytes: &mut [u8],
     a: &mut [i32],
     b: &mut [i32],
@@ -62,30 +121,14 @@ fn slices(
 ) -> bool
     requires { ⌜ Roomy (now bytes) (now a) (now b) (now c) (now f) ⌝ }
 {
-    let x = stream::read_slice(bytes, a);
-    if stream::LIMIT < x {
+    let n = slices::read_slice(bytes, a);
+    if slices::LIMIT < n {
         return broken();
     }
-    let y = stream::read_slice(bytes, b);
-    if stream::LIMIT < y {
-        return broken();
-    }
-    let z = read_third(call, bytes, c);
-    if stream::LIMIT < z {
-        return broken();
-    }
-    answer(
-        call,
-        words,
-        bytes,
-        &mut a[..x],
-        &mut b[..y],
-        &mut c[..z],
-        &mut f[..z],
-    )
+    others(call, words, bytes, &mut a[..n], b, c, f)
 }
 
-// Reads a case after its number, and answers it: whether to go on.
+// Reads a case after its number.
 fn case(
     call: u64,
     bytes: &mut [u8],
@@ -96,28 +139,28 @@ fn case(
 ) -> bool
     requires { ⌜ Roomy (now bytes) (now a) (now b) (now c) (now f) ⌝ }
 {
-    let mut words = [0u64; 5];
-    if !stream::read_words(&mut words, calls::words(call)) {
+    let mut words = [0u64; 6];
+    if !slices::read_words(&mut words, calls::words(call)) {
         return broken();
     }
     if !calls::in_types(call, words) {
         return broken();
     }
-    slices(call, words, bytes, a, b, c, f)
+    first(call, words, bytes, a, b, c, f)
 }
 
-// Reads and answers the next case: whether to go on.
+// Reads and answers the next case.
 pub fn next(bytes: &mut [u8], a: &mut [i32], b: &mut [i32], c: &mut [i32], f: &mut [f32]) -> bool
     requires { ⌜ Roomy (now bytes) (now a) (now b) (now c) (now f) ⌝ }
 {
-    match stream::read_word() {
-        stream::Word::Is(call) => {
+    match slices::read_word() {
+        slices::Word::Is(call) => {
             if calls::known(call) {
                 return case(call, bytes, a, b, c, f);
             }
             broken()
         }
-        stream::Word::End => false,
-        stream::Word::Cut => broken(),
+        slices::Word::End => false,
+        slices::Word::Cut => broken(),
     }
 }

@@ -1,15 +1,9 @@
 // Reads a case stream (docs/CASES.md) on standard input to its end, and writes the answers on standard output.
 // The files stdin and stdout hold recorded cases and their answers.
-//     nums      numbers as bytes, and bits as signed numbers
-//     floats    f32 numbers by their bits
-//     stream    words and slices, read and written
 //     calls     what each call is handed, and how each is run
 //     cases     one case: read, run and answered
 mod calls;
 mod cases;
-mod floats;
-mod nums;
-mod stream;
 
 ghost use Rattle.replay.specs.Rooms.{Roomy};
 

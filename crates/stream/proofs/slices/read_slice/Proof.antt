@@ -1,0 +1,95 @@
+-- `slices::read_slice` is safe: both parts lie inside. Assumes nothing.
+use mathlib.Core.Path.{sym}
+use Prim.Native.Nat.{_*_}
+use native.Mathlib.Omega.{arith}
+use lib.ListN.{length-append, length-drop}
+use lib.Seq.{length-take-le}
+use borrow.Author.Needs.{needs}
+use Rattle.stream.proofs.slices.read_slice.Statement.{statement}
+use Rattle.stream.proofs.slices.read_slice.Tie as tie
+
+read-word-requires : tie.Need-read-word-requires
+read-word-requires c κs = search needs
+
+enum-known-word : tie.Need-enum-known-word
+enum-known-word c = search needs
+
+add-result : tie.Need-add-result
+add-result c = search needs
+
+returns : tie.Need-returns
+returns c = search needs
+
+returns-2 : tie.Need-returns-2
+returns-2 c = search needs
+
+mul-read-full : tie.Need-mul-read-full
+mul-read-full c = search needs
+
+slice-relend-prefix-read-full : tie.Need-slice-relend-prefix-read-full
+slice-relend-prefix-read-full c = search needs
+
+slice-aggregate-read-full : tie.Need-slice-aggregate-read-full
+slice-aggregate-read-full c = sym (length-take-le (4 * c .before .before .before .word .given .0 .0) (c .before .before .before .before .before .before .before .args .bytes .now) (omega arith))
+
+read-full-requires : tie.Need-read-full-requires
+read-full-requires c κs = search needs
+
+mul-if2 : tie.Need-mul-if2
+mul-if2 c = search needs
+
+add-result-2 : tie.Need-add-result-2
+add-result-2 c = search needs
+
+same-length : tie.Need-same-length
+same-length c = search needs
+
+returns-3 : tie.Need-returns-3
+returns-3 c = search needs
+
+slice-relend-prefix-decode : tie.Need-slice-relend-prefix-decode
+slice-relend-prefix-decode c = search needs
+
+slice-aggregate-decode : tie.Need-slice-aggregate-decode
+slice-aggregate-decode c =
+    let d = c .before .before .before .before .before .before .before .before .before in
+    sym (length-take-le (d .word .given .0 .0) (d .before .before .before .before .args .list .now) (omega arith))
+
+decode-requires : tie.Need-decode-requires
+decode-requires c κs =
+    let d = c .before .before .before .before .before .before .before .before .before in
+    let e = length-take-le (d .word .given .0 .0) (d .before .before .before .before .args .list .now) (omega arith) in
+    simp (length-append, length-drop) (omega arith)
+
+same-length-2 : tie.Need-same-length-2
+same-length-2 c = search needs
+
+same-length-3 : tie.Need-same-length-3
+same-length-3 c = search needs
+
+returns-4 : tie.Need-returns-4
+returns-4 c = search needs
+
+pub read-slice-spec : {M : Type 1} → statement M
+read-slice-spec =
+    tie.close
+    (tie.spec
+    read-word-requires
+    enum-known-word
+    add-result
+    returns
+    returns-2
+    mul-read-full
+    slice-relend-prefix-read-full
+    slice-aggregate-read-full
+    read-full-requires
+    mul-if2
+    add-result-2
+    same-length
+    returns-3
+    slice-relend-prefix-decode
+    slice-aggregate-decode
+    decode-requires
+    same-length-2
+    same-length-3
+    returns-4)
