@@ -1,54 +1,17 @@
-"""Cases of the two AV1 calls for the case stream (CASES.md): 34 av1_inv_dct, 35 av1_inv_wht4x4.
+"""Cases of the two AV1 calls for the case stream (docs/CASES.md): 34 av1_inv_dct, 35 av1_inv_wht4x4.
 
-    case              (call, arguments, list)
-    encode(case)      its bytes in a stream
-    answer(case)      the model's answer as the stream has it: number, place, slice, then the list
-    many(rng, count)  random cases of all lengths and bit counts, extremes and every refusal among them
-    fixed()           the cases of the page, and both sides of every edge
-    recorded()        the cases that stand in the gate: fixed, and 300 random ones
+    a_dct(rng), a_wht(rng)  a case whose inputs fit; a number on the way may not
+    many(rng, count)        random cases of all lengths and bit counts, extremes and every refusal among them
+    fixed()                 the cases of the page, and both sides of every edge
+    recorded()              the cases whose answers tools/av1/answers has: fixed, and 300 random ones
+"""
 
-A case that libaom can answer is one that is accepted; of the WHT also one whose results lie in -2048 .. 2047, since libaom adds
-them to samples of 12 bits."""
-import array
 import random
-import struct
-import sys
 
-import av1_model
+from stream import Case
 
 DCT, WHT = 34, 35
 LENGTHS = (4, 8, 16, 32, 64)
-
-
-def word(value):
-    return struct.pack('<Q', value % 2**64)
-
-
-def nums(values):
-    packed = array.array('i', values)
-    if sys.byteorder == 'big':
-        packed.byteswap()
-    return packed.tobytes()
-
-
-def encode(case):
-    call, arguments, values = case
-    return b''.join([word(call), *map(word, arguments), word(len(values)), nums(values)])
-
-
-def outcome(case):
-    call, arguments, values = case
-    return av1_model.dct(*arguments, values) if call == DCT else av1_model.wht(*arguments, values)
-
-
-def answer(case):
-    number, slice_, place, values = outcome(case)
-    return word(number) + word(place) + word(slice_) + nums(values)
-
-
-def for_libaom(case):
-    number, _, _, values = outcome(case)
-    return number == 0 and (case[0] == DCT or all(-2048 <= z < 2048 for z in values))
 
 
 def a_list(rng, count, bits):
@@ -78,7 +41,7 @@ def a_list(rng, count, bits):
 
 def a_dct(rng):
     length, bits = rng.choice(LENGTHS), rng.randint(16, 20)
-    return DCT, (length, bits), a_list(rng, length, bits)
+    return Case(DCT, [length, bits], [a_list(rng, length, bits)])
 
 
 def a_wht(rng):
@@ -86,24 +49,23 @@ def a_wht(rng):
     values = a_list(rng, 16, bits)
     if rng.random() < 0.5:
         values = [z >> rng.randrange(0, 9) for z in values]
-    return WHT, (bits,), values
+    return Case(WHT, [bits], [values])
 
 
 def refused(rng):
     """A case with one thing wrong: bits, length, the list's length, an input one outside."""
-    call, arguments, values = a_dct(rng) if rng.random() < 0.6 else a_wht(rng)
+    call, arguments, (values,) = a_dct(rng) if rng.random() < 0.6 else a_wht(rng)
     kind = rng.randrange(4)
     if kind == 0:
-        arguments = (*arguments[:-1], rng.choice((0, 15, 21, 2**32 - 1)))
+        arguments = [*arguments[:-1], rng.choice((0, 15, 21, 2**32 - 1))]
     elif kind == 1 and call == DCT:
-        arguments = (rng.choice((0, 1, 2, 3, 5, 12, 31, 33, 63, 65, 128, 2**64 - 1)), arguments[1])
+        arguments = [rng.choice((0, 1, 2, 3, 5, 12, 31, 33, 63, 65, 128, 2**64 - 1)), arguments[1]]
     elif kind == 2:
         values = values[:rng.randrange(len(values))] if rng.random() < 0.5 else values + [0] * rng.randrange(1, 5)
     else:
         top = 1 << (arguments[-1] - 1)
-        values = list(values)
         values[rng.randrange(len(values))] = rng.choice((top, -top - 1, 2**31 - 1, -2**31))
-    return call, arguments, values
+    return Case(call, arguments, [values])
 
 
 def many(rng, count):
@@ -112,28 +74,28 @@ def many(rng, count):
 
 
 def fixed():
-    yield DCT, (4, 16), [1, 2, 3, 4]
-    yield DCT, (8, 16), [100, -200, 300, -400, 500, -600, 700, -800]
+    yield Case(DCT, [4, 16], [[1, 2, 3, 4]])
+    yield Case(DCT, [8, 16], [[100, -200, 300, -400, 500, -600, 700, -800]])
     for values in ([32768, 0, 0, 0], [32767, 0, 32767, 0], [32767, 0, -32768, 0]):
-        yield DCT, (4, 16), values
-    yield DCT, (8, 16), [32767] * 8
-    yield DCT, (16, 16), [20000] * 16
-    yield DCT, (64, 16), [9000] * 64
-    yield WHT, (16,), list(range(-32, 32, 4))
+        yield Case(DCT, [4, 16], [values])
+    yield Case(DCT, [8, 16], [[32767] * 8])
+    yield Case(DCT, [16, 16], [[20000] * 16])
+    yield Case(DCT, [64, 16], [[9000] * 64])
+    yield Case(WHT, [16], [list(range(-32, 32, 4))])
     for bits in range(15, 22):
         top = 1 << (bits - 1)
         for length in LENGTHS:
-            yield DCT, (length, bits), [top - 1] + [0] * (length - 1)
-            yield DCT, (length, bits), [0] * (length - 1) + [-top]
-            yield DCT, (length, bits), [0] * (length - 1) + [top]
-            yield DCT, (length, bits), [-top - 1] + [0] * (length - 1)
+            yield Case(DCT, [length, bits], [[top - 1] + [0] * (length - 1)])
+            yield Case(DCT, [length, bits], [[0] * (length - 1) + [-top]])
+            yield Case(DCT, [length, bits], [[0] * (length - 1) + [top]])
+            yield Case(DCT, [length, bits], [[-top - 1] + [0] * (length - 1)])
         for values in ([top - 1] * 16, [-top] * 16, [-top, top - 1] * 8, [top] + [0] * 15, [0] * 15 + [-top - 1]):
-            yield WHT, (bits,), values
+            yield Case(WHT, [bits], [values])
     for length in (0, 3, 5, 63, 65, 2**64 - 1):
-        yield DCT, (length, 16), [0] * 4
+        yield Case(DCT, [length, 16], [[0] * 4])
     for count in (0, 15, 17):
-        yield DCT, (16, 16), [0] * count
-        yield WHT, (16,), [0] * count
+        yield Case(DCT, [16, 16], [[0] * count])
+        yield Case(WHT, [16], [[0] * count])
 
 
 def recorded():

@@ -11,6 +11,7 @@ import sys
 
 sys.dont_write_bytecode = True
 
+import av1_cases
 import model
 import stream
 import tables
@@ -257,9 +258,18 @@ def history(rng, steps):
     return cases
 
 
+def older(rng, make):
+    """A case of the older edition, drawn until none of its numbers leaves the bit count."""
+    while True:
+        case = make(rng)
+        if model.outcome(case)[0] == model.DONE:
+            return case
+
+
 def accepted(rng, blocks, call):
     """An accepted case of any call."""
     makers = {"chroma": lambda: chroma(rng), "wht": lambda: wht(rng, call), "lossless": lambda: lossless(rng, call)}
+    makers |= {"av1 dct": lambda: older(rng, av1_cases.a_dct), "av1 wht": lambda: older(rng, av1_cases.a_wht)}
     return makers.get(stream.CALLS[call].kind, lambda: blocks.case(call))()
 
 
@@ -301,7 +311,7 @@ def stray(rng, case):
     values = rng.choice(case.slices)
     depth = case.arguments[0] if case.arguments and case.arguments[0] <= 12 else 8
     ends = (-1, 2**depth, -(2 ** (depth + 7)) - 1, 2 ** (depth + 7), RANGE[0] - 1, RANGE[1] + 1)
-    ends += (-65_536, 65_536, -262_145, 262_145, *WHOLE)
+    ends += (-65_536, 65_536, -262_145, 262_145, 524_288, *WHOLE)
     for _ in range(rng.randint(1, 3) if values else 0):
         values[rng.randrange(len(values))] = rng.choice(ends)
 
@@ -327,6 +337,8 @@ FAULTS = (
     set_argument("column", 1, 5, 65_533, *HUGE, 2**64 - 5, 2**64 - 3),
     set_argument("sine", -257, 257, *WHOLE),
     set_argument("cosine", -257, 257, *WHOLE),
+    set_argument("length", 0, 1, 3, 5, 12, 31, 63, 65, 128, *HUGE),
+    set_argument("bits", 0, 8, 15, 21, 32, 2**31, 2**32 - 1),
     cut,
     cut,
     lengthen,

@@ -69,6 +69,14 @@ def lossless(call, depth=8, stride=8, width=None, row=0, column=0, levels=None, 
     return Case(call, arguments, [levels, [100] * 64 if plane is None else list(plane)])
 
 
+def older_dct(length, numbers, bits=16):
+    return Case(34, [length, bits], [list(numbers)])
+
+
+def older_wht(numbers, bits=16):
+    return Case(35, [bits], [list(numbers)])
+
+
 def with_number(count, index, value, others=0):
     numbers = [others] * count
     numbers[index] = value
@@ -107,14 +115,16 @@ def pixel_sums():
     yield from on_pixel_calls("Run 63 at size 4", 4, 0, (0, 0), 63, [100] * 4096)
 
 
+TRANSFORMS = (
+    ("P10", [1, 2, 3, 4] + [0] * 12, [3, -1, 0, 0] + 3 * [2, -1, 0, -1]),
+    ("P11", [-1] + [0] * 15, [0] * 4 + 3 * [0, -1, -1, -1]),
+    ("P12", [1] * 16, [4] + [0] * 15),
+)
+
+
 def other_sums():
     yield Demand("P9", chroma([128, -128, 127, -127], [0] * 4, cosine=1), after=[[1, -1, 0, 0], [0] * 4])
-    transforms = (
-        ("P10", [1, 2, 3, 4] + [0] * 12, [3, -1, 0, 0] + 3 * [2, -1, 0, -1]),
-        ("P11", [-1] + [0] * 15, [0] * 4 + 3 * [0, -1, -1, -1]),
-        ("P12", [1] * 16, [4] + [0] * 15),
-    )
-    for label, residual, levels in transforms:
+    for label, residual, levels in TRANSFORMS:
         yield Demand(label, wht(6, residual), after=[levels])
         yield Demand(f"{label} inverted", wht(7, levels), after=[residual])
     for call in (8, 9):
@@ -135,8 +145,20 @@ def range_sums():
             yield Demand(f"Run {value} at size {size}, call {call}", case, *refusal)
 
 
+def older_sums():
+    """Small sums of the older edition, by hand: 2896 / 4096 is the cosine of an eighth of a turn."""
+    yield Demand("DCT 4 of 4096", older_dct(4, [4096, 0, 0, 0]), after=[[2896] * 4])
+    yield Demand("DCT 8 of 4096", older_dct(8, [4096] + [0] * 7), after=[[2896] * 8])
+    yield Demand("DCT 64 of -4096", older_dct(64, [-4096] + [0] * 63, 20), after=[[-2896] * 64])
+    yield Demand("DCT 4, number 1", older_dct(4, [0, 4096, 0, 0]), after=[[3784, 1567, -1567, -3784]])
+    yield Demand("DCT 4, number 2", older_dct(4, [0, 0, 4096, 0]), after=[[2896, -2896, -2896, 2896]])
+    yield Demand("DCT 4, number 3", older_dct(4, [0, 0, 0, 4096]), after=[[1567, -3784, 3784, -1567]])
+    for label, residual, levels in TRANSFORMS:
+        yield Demand(f"{label}, four times the levels", older_wht([4 * level for level in levels]), after=[residual])
+
+
 def document():
-    return [*pixel_sums(), *other_sums(), *range_sums()]
+    return [*pixel_sums(), *other_sums(), *range_sums(), *older_sums()]
 
 
 # Both sides of each refusal, one at a time.
@@ -403,6 +425,42 @@ def lossless_numbers():
                 yield Demand(f"{label}, before it", make(levels=levels, plane=before), after=[last])
 
 
+def older_edges():
+    """Document 02, section 12: bit counts 16 to 20, five lengths, a list of that length, numbers that fit."""
+    for bits in (0, 8, 15, 16, 17, 18, 19, 20, 21, 32, 2**32 - 1):
+        refusal = () if 16 <= bits <= 20 else (1,)
+        for make in (lambda: older_dct(8, [1] * 8, bits), lambda: older_wht([1] * 16, bits)):
+            yield Demand(f"bits {bits}", make(), *refusal)
+    for length in (0, 1, 2, 3, 5, 7, 9, 12, 24, 31, 33, 48, 63, 65, 128, 2**32 + 4, 2**63, 2**64 - 1):
+        yield Demand(f"length {length}", older_dct(length, [0] * min(length, 128)), 2)
+        yield Demand(f"length {length} and bits 15", older_dct(length, [0] * min(length, 128), 15), 1)
+    for length in (4, 8, 16, 32, 64):
+        yield Demand(f"length {length}", older_dct(length, [0] * length), after=[[0] * length])
+        for count in (0, length - 1, length + 1, 2 * length):
+            yield Demand(f"{count} numbers for {length}", older_dct(length, [2**31 - 1] * count), 6, 1)
+    for count in (0, 15, 17, 32):
+        yield Demand(f"{count} numbers for the WHT", older_wht([2**31 - 1] * count), 6, 1)
+    for bits, (value, fits) in itertools.product(range(16, 21), ((-1, 1), (0, 1), (1, 1), (2, 0), (-2, 0))):
+        end = {1: 2 ** (bits - 1) - 1, 2: 2 ** (bits - 1), -1: -(2 ** (bits - 1)), -2: -(2 ** (bits - 1)) - 1, 0: 0}[value]
+        for length, place in ((4, 0), (4, 3), (16, 7), (64, 63)):
+            refusal = () if fits else (15, 0, place)
+            yield Demand(f"input {end} at {place}, bits {bits}", older_dct(length, with_number(length, place, end), bits), *refusal)
+        yield Demand(f"input {end}, bits {bits}", older_wht(with_number(16, 9, end), bits), *(() if fits else (15, 0, 9)))
+    for numbers, place in (([32_768, 32_768, 0, 0], 0), ([0, 0, -32_769, 32_768], 2)):
+        yield Demand("two inputs out of range", older_dct(4, numbers), 15, 0, place)
+
+
+def older_intermediates():
+    """DCT 4 stores the sum and the difference of results 0 and 3, places 4 and 5, then of results 1 and 2, places 6 and 7."""
+    top = 32_767
+    yield Demand("sum of 0 and 3", older_dct(4, [top, 0, top, 0]), 15, 0, 4)
+    yield Demand("sum of 1 and 2", older_dct(4, [top, 0, -top, 0]), 15, 0, 6)
+    yield Demand("difference of 0 and 3", older_dct(4, [top, -top, 0, 0]), 15, 0, 5)
+    yield Demand("difference of 1 and 2", older_dct(4, [16_000, 0, 0, top]), 15, 0, 7)
+    yield Demand("the same at 17 bits", older_dct(4, [top, 0, top, 0], 17), after=[[46_335, 0, 0, 46_335]])
+    yield Demand("an input before a sum", older_dct(4, [top, 0, top, top + 1]), 15, 0, 3)
+
+
 # Two refusals at once: the lowest number counts, then the lowest place, then the lowest slice.
 
 Fault = collections.namedtuple("Fault", "number slice place spoil")
@@ -545,7 +603,7 @@ def together():
 def edges():
     sections = (depths, sizes_and_types, kinds, pixel_lengths, several_short, strict_ranges, orders, clamping_ranges)
     sections += (sample_ranges, plane_pads, add_strides, chroma_edges, wht_edges, lossless_places, lossless_widths)
-    sections += (lossless_pads, lossless_numbers, together)
+    sections += (lossless_pads, lossless_numbers, older_edges, older_intermediates, together)
     return [demand for section in sections for demand in section()]
 
 

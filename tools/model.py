@@ -13,6 +13,7 @@ import sys
 
 sys.dont_write_bytecode = True
 
+import av1_model
 import stream
 import tables
 from stream import Answer
@@ -379,6 +380,18 @@ lossless_step = functools.partial(lossless, sign=1)
 lossless_undo = functools.partial(lossless, sign=-1)
 
 
+# The older edition: av1_model.py has its steps.
+
+
+def older(transform):
+    def in_place(*arguments):
+        *words, numbers = arguments
+        number, slice, place, numbers[:] = transform(*words, numbers)
+        return Answer(number, slice, place)
+
+    return in_place
+
+
 # The case stream.
 
 CALLS = {
@@ -399,6 +412,8 @@ CALLS = {
     15: functools.partial(inv_txfm_recon_f32, clamping=True),
     16: functools.partial(inv_txfm_add, clamping=True),
     17: functools.partial(inv_txfm_add, clamping=True),
+    34: older(av1_model.dct),
+    35: older(av1_model.wht),
 }
 
 

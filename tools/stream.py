@@ -54,6 +54,8 @@ CALLS = {
     15: _recon("inv_txfm_recon_f32_clamped, four lanes"),
     16: _add("inv_txfm_add_clamped"),
     17: _add("inv_txfm_add_clamped, four lanes"),
+    34: Call("av1_inv_dct", "av1 dct", ("length", "bits"), ("list",), (0,)),
+    35: Call("av1_inv_wht4x4", "av1 wht", ("bits",), ("list",), (0,)),
 }
 
 CLAMPED = (14, 15, 16, 17)
@@ -143,7 +145,7 @@ class Reader:
             value -= 2**64 if value >= 2**63 else 0
             if not -(2**31) <= value < 2**31:
                 raise Broken
-        if name == "depth" and value >= 2**32:
+        if name in ("depth", "bits") and value >= 2**32:
             raise Broken
         return value
 

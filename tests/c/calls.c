@@ -412,6 +412,82 @@ static void narrow(block_call *call, const char *name, int32_t gained) {
     expect(done(answer) && same(), name, "width 6, column 2");
 }
 
+/* ---- The older edition */
+
+/* The inverse DCT of a list whose number `index` is 4096 and the others 0: the turned number, by hand. */
+static const struct older_sum {
+    size_t n, index;
+    int32_t result[4];
+} older_sums[] = {
+    {4, 0, {2896, 2896, 2896, 2896}},
+    {4, 1, {3784, 1567, -1567, -3784}},
+    {4, 2, {2896, -2896, -2896, 2896}},
+    {4, 3, {1567, -3784, 3784, -1567}},
+};
+
+static void older(size_t n, uint32_t bits, size_t len, uint32_t number, uint32_t slice, size_t place, const char *what) {
+    before = now;
+    panel_answer answer = panel_av1_inv_dct(n, bits, now.coeff, len);
+    expect(is(answer, number, slice, place) && same(), "panel_av1_inv_dct", what);
+    fresh();
+}
+
+static void older_wht(uint32_t bits, size_t len, uint32_t number, uint32_t slice, size_t place, const char *what) {
+    before = now;
+    panel_answer answer = panel_av1_inv_wht4x4(bits, now.coeff, len);
+    expect(is(answer, number, slice, place) && same(), "panel_av1_inv_wht4x4", what);
+    fresh();
+}
+
+static void older_calls(void) {
+    const size_t lengths[5] = {4, 8, 16, 32, 64};
+    panel_answer answer;
+    for (size_t s = 0; s < sizeof older_sums / sizeof *older_sums; s++) {
+        fresh();
+        now.coeff[older_sums[s].index] = 4096;
+        before = now;
+        for (size_t i = 0; i < 4; i++) before.coeff[i] = older_sums[s].result[i];
+        answer = panel_av1_inv_dct(older_sums[s].n, 16, now.coeff, older_sums[s].n);
+        expect(done(answer) && same(), "panel_av1_inv_dct", "4096 at one place of four");
+    }
+    for (size_t i = 0; i < 5; i++) {
+        fresh();
+        now.coeff[0] = 4096;
+        before = now;
+        fill(before.coeff, lengths[i], 2896);
+        answer = panel_av1_inv_dct(lengths[i], 20, now.coeff, lengths[i]);
+        expect(done(answer) && same(), "panel_av1_inv_dct", "4096 at place 0");
+        fresh();
+        older(lengths[i], 16, lengths[i] - 1, 6, 1, 0, "one number too few");
+        older(lengths[i], 16, lengths[i] + 1, 6, 1, 0, "one number too many");
+        older(lengths[i], 15, lengths[i], 1, 0, 0, "bits 15");
+        older(lengths[i], 21, lengths[i], 1, 0, 0, "bits 21");
+    }
+    older(12, 16, 12, 2, 0, 0, "length 12");
+    older(0, 16, 0, 2, 0, 0, "length 0");
+    now.coeff[3] = 32768;
+    older(4, 16, 4, 15, 0, 3, "an input of 32,768 at 16 bits");
+    now.coeff[0] = now.coeff[2] = 32767;
+    older(4, 16, 4, 15, 0, 4, "a sum that leaves 16 bits");
+    for (size_t p = 0; p < sizeof pairs / sizeof *pairs; p++) {
+        fresh();
+        for (int i = 0; i < 16; i++) now.coeff[i] = 4 * pairs[p].level[i];
+        before = now;
+        load(before.coeff, pairs[p].resid);
+        answer = panel_av1_inv_wht4x4(16, now.coeff, 16);
+        expect(done(answer) && same(), "panel_av1_inv_wht4x4", pairs[p].name);
+    }
+    fresh();
+    older_wht(15, 16, 1, 0, 0, "bits 15");
+    older_wht(21, 16, 1, 0, 0, "bits 21");
+    older_wht(16, 15, 6, 1, 0, "fifteen numbers");
+    older_wht(16, 17, 6, 1, 0, "seventeen numbers");
+    now.coeff[9] = -32769;
+    older_wht(16, 16, 15, 0, 9, "an input of -32,769 at 16 bits");
+    expect(is(panel_av1_inv_dct(4, 16, NULL, 0), 6, 1, 0), "panel_av1_inv_dct", "null pointer");
+    expect(is(panel_av1_inv_wht4x4(16, NULL, 0), 6, 1, 0), "panel_av1_inv_wht4x4", "null pointer");
+}
+
 /* ---- The longest plane */
 
 /* Rows 65,535 and 65,536 of a plane of stride 65,536 need 16 GiB: a mapping of which only the pages that are touched exist. */
@@ -504,6 +580,7 @@ int main(void) {
     block_refusals(panel_lossless_undo, "panel_lossless_undo", 0);
     narrow(panel_lossless_step, "panel_lossless_step", 1);
     narrow(panel_lossless_undo, "panel_lossless_undo", -1);
+    older_calls();
     longest_plane();
     sentences(panel_refusal_words, "panel_refusal_words", 15);
     sentences(panel_slice_words, "panel_slice_words", 5);
