@@ -11,17 +11,12 @@ pub fn known(call: u64) -> bool {
     1 <= call && call <= 9
 }
 
-// Whether a call has three slices, the third of them floats; the others have two.
-pub fn floating(call: u64) -> bool {
+// How many slices a call has. A third one is floats.
+pub fn slices(call: u64) -> usize {
     match call {
-        1 | 2 => true,
-        _ => false,
+        1 | 2 => 3,
+        _ => 2,
     }
-}
-
-// Whether a call writes the first of its two slices besides the second.
-pub fn writes_first(call: u64) -> bool {
-    call == 5
 }
 
 // How many words of arguments a call has.

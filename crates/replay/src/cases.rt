@@ -12,18 +12,22 @@ fn broken() -> bool {
     false
 }
 
+// Writes what a call of two slices writes: both of a chroma pair, else the second.
+fn write_pair(call: u64, bytes: &mut [u8], a: &[i32], b: &[i32]) -> bool
+    requires { ⌜ Kept (now bytes) (now a) × Kept (now bytes) (now b) ⌝ }
+{
+    match call {
+        5 => slices::write_slice(bytes, a) && slices::write_slice(bytes, b),
+        _ => slices::write_slice(bytes, b),
+    }
+}
+
 // Runs and answers a case of two slices.
 fn answer(call: u64, words: [u64; 6], bytes: &mut [u8], a: &mut [i32], b: &mut [i32]) -> bool
     requires { ⌜ Kept (now bytes) (now a) × Kept (now bytes) (now b) ⌝ }
 {
     let r = calls::run(call, words, a, b);
-    if !slices::write_answer(r) {
-        return false;
-    }
-    if calls::writes_first(call) && !slices::write_slice(bytes, a) {
-        return false;
-    }
-    slices::write_slice(bytes, b)
+    slices::write_answer(r) && write_pair(call, bytes, a, b)
 }
 
 // Runs and answers a case whose third slice are floats.
@@ -103,10 +107,10 @@ fn others(
 ) -> bool
     requires { ⌜ ByteRoom (now bytes) × Kept (now bytes) (now a) × Room (now b) × Room (now c) × Room (now f) ⌝ }
 {
-    if calls::floating(call) {
-        return second(call, words, bytes, a, b, c, f);
+    match calls::slices(call) {
+        3 => second(call, words, bytes, a, b, c, f),
+        _ => last(call, words, bytes, a, b),
     }
-    last(call, words, bytes, a, b)
 }
 
 // Reads the first slice of a case.
