@@ -1,10 +1,12 @@
-// The nine calls under their C names, as include/panel.h declares them: each is the call that it wraps, with its promise.
+// The calls under their C names, as include/panel.h declares them: each is the call that it wraps, with its promise.
 ghost use mathlib.Core.Path.{_≡_};
 ghost use Rattle.answers.specs.declared.Answer.{Answer};
 ghost use Rattle.pixels.specs.Calls.{addOf, floatOf, Exact};
 ghost use Rattle.chroma.specs.Chroma.{cctxOf};
 ghost use Rattle.wht.specs.Calls.{fwhtOf, iwhtOf};
 ghost use Rattle.lossless.specs.Step.{attempt, stepOf, undoOf};
+ghost use Rattle.av1.specs.Calls.{dctOf};
+ghost use Rattle.av1_wht.specs.Wht.{whtOf};
 use answers::Answer;
 
 // Prediction plus residual as f32, row after row.
@@ -123,4 +125,20 @@ pub extern "C" fn panel_lossless_undo(
     ensures { λ r. ⌜ (r, now (plane .exit)) ≡ undoOf (now (plane .entry)) (attempt depth stride width row column (now (level .entry))) ⌝ }
 {
     lossless::lossless_undo(depth, plane, stride, width, row, column, level)
+}
+
+// The inverse DCT of AV1, in its place.
+#[no_mangle]
+pub extern "C" fn panel_av1_inv_dct(n: usize, bits: u32, t: &mut [i32]) -> Answer
+    ensures { λ r. ⌜ (r, now (t .exit)) ≡ dctOf n bits (now (t .entry)) ⌝ }
+{
+    av1::av1_inv_dct(n, bits, t)
+}
+
+// The inverse 4x4 WHT of AV1, in its place.
+#[no_mangle]
+pub extern "C" fn panel_av1_inv_wht4x4(bits: u32, t: &mut [i32]) -> Answer
+    ensures { λ r. ⌜ (r, now (t .exit)) ≡ whtOf bits (now (t .entry)) ⌝ }
+{
+    av1_wht::av1_inv_wht4x4(bits, t)
 }
