@@ -26,10 +26,10 @@ static int rounded(int z) { return z < 0 ? -((128 - z) / 256) : (z + 128) / 256;
 /* 0, -1, 1, -2, 2, .. */
 static int by_size(int k) { return k % 2 ? -(k + 1) / 2 : k / 2; }
 
-static int drift(int s, int c, int u, int v)
+static long long drift(int s, int c, int u, int v)
 {
     int p = rounded(u * c - v * s), q = rounded(u * s + v * c);
-    return 65536 * rounded(p * c + q * s) - (s * s + c * c) * u;
+    return 65536LL * rounded(p * c + q * s) - (long long)(s * s + c * c) * u;
 }
 
 /* Whether some pair of size 2^17 at most has the candidate's drift; then that pair. */

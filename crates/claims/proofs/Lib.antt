@@ -1,13 +1,15 @@
 -- What is claimed. Each file opens with its statements in plain words.
 --     Answers    every call's answer and what it leaves
+--     Promises   each public function and each export: asks nothing, and promises the definition that the other files speak of
 --     Slices     which slice each refusal names
 --     Pixels     one lane and four lanes, dense table products, each pixel
 --     Strict     coefficients out of range
 --     Orders     coefficients in row order and in column order
 --     Chroma     pair by pair, and how far a pair drifts that is turned back
---     Wht        each transform undoes the other
+--     Wht        each transform undoes the other, and the difference of two blocks leads from one to the other
 --     History    stepping back, and the wanted block
 --     Av1        the older edition: two definitions agree
+--     Recursion  the recursive DCT is the flat one
 --     Worked     P1 to P12
 -- The useless versions of document 01, "How much each call owes", and the edits that are refused for being one:
 --     a call that refuses everything                     crates/pixels/must-fail/refuses_everything.edit
@@ -15,6 +17,7 @@
 --     a step that touches nothing                        crates/lossless/must-fail/touches_nothing.edit
 --     a stepper that works once and then says Done       no call keeps anything from one to the next; History speaks of stepOf at each place
 pub mod Answers
+pub mod Promises
 pub mod Slices
 pub mod Pixels
 pub mod Strict
@@ -23,4 +26,5 @@ pub mod Chroma
 pub mod Wht
 pub mod History
 pub mod Av1
+pub mod Recursion
 pub mod Worked

@@ -1,7 +1,7 @@
 // The calls under their C names, as include/panel.h declares them: each is the call that it wraps, with its promise.
 ghost use mathlib.Core.Path.{_≡_};
 ghost use Rattle.answers.specs.declared.Answer.{Answer};
-ghost use Rattle.pixels.specs.Calls.{addOf, floatOf, Exact};
+ghost use Rattle.pixels.specs.Calls.{addOf, floatOf, Exact, strict, strictRows, clamped};
 ghost use Rattle.chroma.specs.Chroma.{cctxOf};
 ghost use Rattle.wht.specs.Calls.{fwhtOf, iwhtOf};
 ghost use Rattle.lossless.specs.Step.{attempt, stepOf, undoOf};
@@ -19,8 +19,8 @@ pub extern "C" fn panel_inv_txfm_recon_f32(
     bd: u32,
     pred: &[i32],
 ) -> Answer
-    ensures { λ r. ⌜ (r, now (out .exit)) ≡ floatOf (now (out .entry)) (now (coeff .entry)) txtp tx bd (now (pred .entry)) ⌝ }
-    ensures { λ r. ⌜ (r .number ≡ 0 → Exact (now (out .exit)) (now (coeff .entry)) txtp tx bd (now (pred .entry))) ⌝ }
+    ensures { λ r. ⌜ (r, now (out .exit)) ≡ floatOf strict (now (out .entry)) (now (coeff .entry)) txtp tx bd (now (pred .entry)) ⌝ }
+    ensures { λ r. ⌜ (r .number ≡ 0 → Exact strict (now (out .exit)) (now (coeff .entry)) txtp tx bd (now (pred .entry))) ⌝ }
 {
     pixels::inv_txfm_recon_f32(out, coeff, txtp, tx, bd, pred)
 }
@@ -35,10 +35,74 @@ pub extern "C" fn panel_inv_txfm_recon_f32_lanes(
     bd: u32,
     pred: &[i32],
 ) -> Answer
-    ensures { λ r. ⌜ (r, now (out .exit)) ≡ floatOf (now (out .entry)) (now (coeff .entry)) txtp tx bd (now (pred .entry)) ⌝ }
-    ensures { λ r. ⌜ (r .number ≡ 0 → Exact (now (out .exit)) (now (coeff .entry)) txtp tx bd (now (pred .entry))) ⌝ }
+    ensures { λ r. ⌜ (r, now (out .exit)) ≡ floatOf strict (now (out .entry)) (now (coeff .entry)) txtp tx bd (now (pred .entry)) ⌝ }
+    ensures { λ r. ⌜ (r .number ≡ 0 → Exact strict (now (out .exit)) (now (coeff .entry)) txtp tx bd (now (pred .entry))) ⌝ }
 {
     pixels::inv_txfm_recon_f32_lanes(out, coeff, txtp, tx, bd, pred)
+}
+
+// The same, with coefficients in row order.
+#[no_mangle]
+pub extern "C" fn panel_inv_txfm_recon_f32_rows(
+    out: &mut [f32],
+    coeff: &[i32],
+    txtp: usize,
+    tx: usize,
+    bd: u32,
+    pred: &[i32],
+) -> Answer
+    ensures { λ r. ⌜ (r, now (out .exit)) ≡ floatOf strictRows (now (out .entry)) (now (coeff .entry)) txtp tx bd (now (pred .entry)) ⌝ }
+    ensures { λ r. ⌜ (r .number ≡ 0 → Exact strictRows (now (out .exit)) (now (coeff .entry)) txtp tx bd (now (pred .entry))) ⌝ }
+{
+    pixels::inv_txfm_recon_f32_rows(out, coeff, txtp, tx, bd, pred)
+}
+
+// And four lanes at a time.
+#[no_mangle]
+pub extern "C" fn panel_inv_txfm_recon_f32_rows_lanes(
+    out: &mut [f32],
+    coeff: &[i32],
+    txtp: usize,
+    tx: usize,
+    bd: u32,
+    pred: &[i32],
+) -> Answer
+    ensures { λ r. ⌜ (r, now (out .exit)) ≡ floatOf strictRows (now (out .entry)) (now (coeff .entry)) txtp tx bd (now (pred .entry)) ⌝ }
+    ensures { λ r. ⌜ (r .number ≡ 0 → Exact strictRows (now (out .exit)) (now (coeff .entry)) txtp tx bd (now (pred .entry))) ⌝ }
+{
+    pixels::inv_txfm_recon_f32_rows_lanes(out, coeff, txtp, tx, bd, pred)
+}
+
+// The same, with coefficients clamped in place of refused: as the source of the port has it.
+#[no_mangle]
+pub extern "C" fn panel_inv_txfm_recon_f32_clamped(
+    out: &mut [f32],
+    coeff: &[i32],
+    txtp: usize,
+    tx: usize,
+    bd: u32,
+    pred: &[i32],
+) -> Answer
+    ensures { λ r. ⌜ (r, now (out .exit)) ≡ floatOf clamped (now (out .entry)) (now (coeff .entry)) txtp tx bd (now (pred .entry)) ⌝ }
+    ensures { λ r. ⌜ (r .number ≡ 0 → Exact clamped (now (out .exit)) (now (coeff .entry)) txtp tx bd (now (pred .entry))) ⌝ }
+{
+    pixels::inv_txfm_recon_f32_clamped(out, coeff, txtp, tx, bd, pred)
+}
+
+// And four lanes at a time.
+#[no_mangle]
+pub extern "C" fn panel_inv_txfm_recon_f32_clamped_lanes(
+    out: &mut [f32],
+    coeff: &[i32],
+    txtp: usize,
+    tx: usize,
+    bd: u32,
+    pred: &[i32],
+) -> Answer
+    ensures { λ r. ⌜ (r, now (out .exit)) ≡ floatOf clamped (now (out .entry)) (now (coeff .entry)) txtp tx bd (now (pred .entry)) ⌝ }
+    ensures { λ r. ⌜ (r .number ≡ 0 → Exact clamped (now (out .exit)) (now (coeff .entry)) txtp tx bd (now (pred .entry))) ⌝ }
+{
+    pixels::inv_txfm_recon_f32_clamped_lanes(out, coeff, txtp, tx, bd, pred)
 }
 
 // The residual added into a picture at its stride.
@@ -51,7 +115,7 @@ pub extern "C" fn panel_inv_txfm_add(
     tx: usize,
     bd: u32,
 ) -> Answer
-    ensures { λ r. ⌜ (r, now (dst .exit)) ≡ addOf (now (dst .entry)) stride (now (coeff .entry)) txtp tx bd ⌝ }
+    ensures { λ r. ⌜ (r, now (dst .exit)) ≡ addOf strict (now (dst .entry)) stride (now (coeff .entry)) txtp tx bd ⌝ }
 {
     pixels::inv_txfm_add(dst, stride, coeff, txtp, tx, bd)
 }
@@ -66,9 +130,69 @@ pub extern "C" fn panel_inv_txfm_add_lanes(
     tx: usize,
     bd: u32,
 ) -> Answer
-    ensures { λ r. ⌜ (r, now (dst .exit)) ≡ addOf (now (dst .entry)) stride (now (coeff .entry)) txtp tx bd ⌝ }
+    ensures { λ r. ⌜ (r, now (dst .exit)) ≡ addOf strict (now (dst .entry)) stride (now (coeff .entry)) txtp tx bd ⌝ }
 {
     pixels::inv_txfm_add_lanes(dst, stride, coeff, txtp, tx, bd)
+}
+
+// The same, with coefficients in row order.
+#[no_mangle]
+pub extern "C" fn panel_inv_txfm_add_rows(
+    dst: &mut [i32],
+    stride: usize,
+    coeff: &[i32],
+    txtp: usize,
+    tx: usize,
+    bd: u32,
+) -> Answer
+    ensures { λ r. ⌜ (r, now (dst .exit)) ≡ addOf strictRows (now (dst .entry)) stride (now (coeff .entry)) txtp tx bd ⌝ }
+{
+    pixels::inv_txfm_add_rows(dst, stride, coeff, txtp, tx, bd)
+}
+
+// And four lanes at a time.
+#[no_mangle]
+pub extern "C" fn panel_inv_txfm_add_rows_lanes(
+    dst: &mut [i32],
+    stride: usize,
+    coeff: &[i32],
+    txtp: usize,
+    tx: usize,
+    bd: u32,
+) -> Answer
+    ensures { λ r. ⌜ (r, now (dst .exit)) ≡ addOf strictRows (now (dst .entry)) stride (now (coeff .entry)) txtp tx bd ⌝ }
+{
+    pixels::inv_txfm_add_rows_lanes(dst, stride, coeff, txtp, tx, bd)
+}
+
+// The same, with coefficients clamped in place of refused: as the source of the port has it.
+#[no_mangle]
+pub extern "C" fn panel_inv_txfm_add_clamped(
+    dst: &mut [i32],
+    stride: usize,
+    coeff: &[i32],
+    txtp: usize,
+    tx: usize,
+    bd: u32,
+) -> Answer
+    ensures { λ r. ⌜ (r, now (dst .exit)) ≡ addOf clamped (now (dst .entry)) stride (now (coeff .entry)) txtp tx bd ⌝ }
+{
+    pixels::inv_txfm_add_clamped(dst, stride, coeff, txtp, tx, bd)
+}
+
+// And four lanes at a time.
+#[no_mangle]
+pub extern "C" fn panel_inv_txfm_add_clamped_lanes(
+    dst: &mut [i32],
+    stride: usize,
+    coeff: &[i32],
+    txtp: usize,
+    tx: usize,
+    bd: u32,
+) -> Answer
+    ensures { λ r. ⌜ (r, now (dst .exit)) ≡ addOf clamped (now (dst .entry)) stride (now (coeff .entry)) txtp tx bd ⌝ }
+{
+    pixels::inv_txfm_add_clamped_lanes(dst, stride, coeff, txtp, tx, bd)
 }
 
 // Chroma pairs, turned in their places.

@@ -1,0 +1,210 @@
+-- The public functions and their C exports: each asks nothing of its caller, and what the caller learns is one equation with the definition of
+-- which the other files speak. A lost or changed `ensures`, or a new `requires`, is refused here. From document 01, "How much each call owes".
+-- `a` has the arguments, `x` is the answer, `left` has the parameters at exit; parameter k is at .1 k times and then .0. Assumes nothing.
+use mathlib.Core.Path.{_≡_}
+use borrow.Fn.Kinds.{Out}
+use Rattle.pixels.specs.Calls.{Reading, strict, strictRows, clamped, addOf, floatOf, Exact}
+use Rattle.chroma.specs.Chroma.{cctxOf}
+use Rattle.wht.specs.Calls.{fwhtOf, iwhtOf}
+use Rattle.lossless.specs.Step.{attempt, stepOf, undoOf}
+use Rattle.av1.specs.Calls.{dctOf}
+use Rattle.av1_wht.specs.Wht.{whtOf}
+use Rattle.pixels.proofs.inv_txfm_recon_f32.Kinds as Recon
+use Rattle.pixels.proofs.inv_txfm_add.Kinds as Add
+use Rattle.chroma.proofs.cctx.Kinds as Cctx
+use Rattle.wht.proofs.fwht4x4.Kinds as Wht
+use Rattle.lossless.proofs.lossless_step.Kinds as Lossless
+use Rattle.av1.proofs.av1_inv_dct.Kinds as Av1Dct
+use Rattle.av1_wht.proofs.av1_inv_wht4x4.Kinds as Av1Wht
+use Rattle.pixels.proofs.inv_txfm_recon_f32.Reads as inv_txfm_recon_f32
+use Rattle.pixels.proofs.inv_txfm_recon_f32_lanes.Reads as inv_txfm_recon_f32_lanes
+use Rattle.pixels.proofs.inv_txfm_recon_f32_rows.Reads as inv_txfm_recon_f32_rows
+use Rattle.pixels.proofs.inv_txfm_recon_f32_rows_lanes.Reads as inv_txfm_recon_f32_rows_lanes
+use Rattle.pixels.proofs.inv_txfm_recon_f32_clamped.Reads as inv_txfm_recon_f32_clamped
+use Rattle.pixels.proofs.inv_txfm_recon_f32_clamped_lanes.Reads as inv_txfm_recon_f32_clamped_lanes
+use Rattle.pixels.proofs.inv_txfm_add.Reads as inv_txfm_add
+use Rattle.pixels.proofs.inv_txfm_add_lanes.Reads as inv_txfm_add_lanes
+use Rattle.pixels.proofs.inv_txfm_add_rows.Reads as inv_txfm_add_rows
+use Rattle.pixels.proofs.inv_txfm_add_rows_lanes.Reads as inv_txfm_add_rows_lanes
+use Rattle.pixels.proofs.inv_txfm_add_clamped.Reads as inv_txfm_add_clamped
+use Rattle.pixels.proofs.inv_txfm_add_clamped_lanes.Reads as inv_txfm_add_clamped_lanes
+use Rattle.chroma.proofs.cctx.Reads as cctx
+use Rattle.wht.proofs.fwht4x4.Reads as fwht4x4
+use Rattle.wht.proofs.iwht4x4.Reads as iwht4x4
+use Rattle.lossless.proofs.lossless_step.Reads as lossless_step
+use Rattle.lossless.proofs.lossless_undo.Reads as lossless_undo
+use Rattle.av1.proofs.av1_inv_dct.Reads as av1_inv_dct
+use Rattle.av1_wht.proofs.av1_inv_wht4x4.Reads as av1_inv_wht4x4
+use Rattle.panel.proofs.panel_inv_txfm_recon_f32.Reads as panel_inv_txfm_recon_f32
+use Rattle.panel.proofs.panel_inv_txfm_recon_f32_lanes.Reads as panel_inv_txfm_recon_f32_lanes
+use Rattle.panel.proofs.panel_inv_txfm_recon_f32_rows.Reads as panel_inv_txfm_recon_f32_rows
+use Rattle.panel.proofs.panel_inv_txfm_recon_f32_rows_lanes.Reads as panel_inv_txfm_recon_f32_rows_lanes
+use Rattle.panel.proofs.panel_inv_txfm_recon_f32_clamped.Reads as panel_inv_txfm_recon_f32_clamped
+use Rattle.panel.proofs.panel_inv_txfm_recon_f32_clamped_lanes.Reads as panel_inv_txfm_recon_f32_clamped_lanes
+use Rattle.panel.proofs.panel_inv_txfm_add.Reads as panel_inv_txfm_add
+use Rattle.panel.proofs.panel_inv_txfm_add_lanes.Reads as panel_inv_txfm_add_lanes
+use Rattle.panel.proofs.panel_inv_txfm_add_rows.Reads as panel_inv_txfm_add_rows
+use Rattle.panel.proofs.panel_inv_txfm_add_rows_lanes.Reads as panel_inv_txfm_add_rows_lanes
+use Rattle.panel.proofs.panel_inv_txfm_add_clamped.Reads as panel_inv_txfm_add_clamped
+use Rattle.panel.proofs.panel_inv_txfm_add_clamped_lanes.Reads as panel_inv_txfm_add_clamped_lanes
+use Rattle.panel.proofs.panel_cctx.Reads as panel_cctx
+use Rattle.panel.proofs.panel_fwht4x4.Reads as panel_fwht4x4
+use Rattle.panel.proofs.panel_iwht4x4.Reads as panel_iwht4x4
+use Rattle.panel.proofs.panel_lossless_step.Reads as panel_lossless_step
+use Rattle.panel.proofs.panel_lossless_undo.Reads as panel_lossless_undo
+use Rattle.panel.proofs.panel_av1_inv_dct.Reads as panel_av1_inv_dct
+use Rattle.panel.proofs.panel_av1_inv_wht4x4.Reads as panel_av1_inv_wht4x4
+use Rattle.claims.specs.Promises.{Promised}
+
+-- output, coefficients, type, size, depth, prediction
+abbrev filling : Reading → Out 3 Recon.ps Recon.r
+filling how κs a x left =
+    ((x, left .0 .now) ≡ floatOf how (a .0 .now) (a .1 .0 .now) (a .1 .1 .0) (a .1 .1 .1 .0) (a .1 .1 .1 .1 .0) (a .1 .1 .1 .1 .1 .0 .now))
+    × (x .number ≡ 0 → Exact how (left .0 .now) (a .1 .0 .now) (a .1 .1 .0) (a .1 .1 .1 .0) (a .1 .1 .1 .1 .0) (a .1 .1 .1 .1 .1 .0 .now))
+
+pub inv-txfm-recon-f32-promised : Promised 3 Recon.ps Recon.r inv_txfm_recon_f32.Asked inv_txfm_recon_f32.Learnt (filling strict)
+inv-txfm-recon-f32-promised = (λ κs a. tt, λ κs a x left p. p)
+
+pub panel-inv-txfm-recon-f32-promised : Promised 3 Recon.ps Recon.r panel_inv_txfm_recon_f32.Asked panel_inv_txfm_recon_f32.Learnt (filling strict)
+panel-inv-txfm-recon-f32-promised = (λ κs a. tt, λ κs a x left p. p)
+
+pub inv-txfm-recon-f32-lanes-promised : Promised 3 Recon.ps Recon.r inv_txfm_recon_f32_lanes.Asked inv_txfm_recon_f32_lanes.Learnt (filling strict)
+inv-txfm-recon-f32-lanes-promised = (λ κs a. tt, λ κs a x left p. p)
+
+pub panel-inv-txfm-recon-f32-lanes-promised : Promised 3 Recon.ps Recon.r panel_inv_txfm_recon_f32_lanes.Asked panel_inv_txfm_recon_f32_lanes.Learnt (filling strict)
+panel-inv-txfm-recon-f32-lanes-promised = (λ κs a. tt, λ κs a x left p. p)
+
+pub inv-txfm-recon-f32-rows-promised : Promised 3 Recon.ps Recon.r inv_txfm_recon_f32_rows.Asked inv_txfm_recon_f32_rows.Learnt (filling strictRows)
+inv-txfm-recon-f32-rows-promised = (λ κs a. tt, λ κs a x left p. p)
+
+pub panel-inv-txfm-recon-f32-rows-promised : Promised 3 Recon.ps Recon.r panel_inv_txfm_recon_f32_rows.Asked panel_inv_txfm_recon_f32_rows.Learnt (filling strictRows)
+panel-inv-txfm-recon-f32-rows-promised = (λ κs a. tt, λ κs a x left p. p)
+
+pub inv-txfm-recon-f32-rows-lanes-promised : Promised 3 Recon.ps Recon.r inv_txfm_recon_f32_rows_lanes.Asked inv_txfm_recon_f32_rows_lanes.Learnt (filling strictRows)
+inv-txfm-recon-f32-rows-lanes-promised = (λ κs a. tt, λ κs a x left p. p)
+
+pub panel-inv-txfm-recon-f32-rows-lanes-promised : Promised 3 Recon.ps Recon.r panel_inv_txfm_recon_f32_rows_lanes.Asked panel_inv_txfm_recon_f32_rows_lanes.Learnt (filling strictRows)
+panel-inv-txfm-recon-f32-rows-lanes-promised = (λ κs a. tt, λ κs a x left p. p)
+
+pub inv-txfm-recon-f32-clamped-promised : Promised 3 Recon.ps Recon.r inv_txfm_recon_f32_clamped.Asked inv_txfm_recon_f32_clamped.Learnt (filling clamped)
+inv-txfm-recon-f32-clamped-promised = (λ κs a. tt, λ κs a x left p. p)
+
+pub panel-inv-txfm-recon-f32-clamped-promised : Promised 3 Recon.ps Recon.r panel_inv_txfm_recon_f32_clamped.Asked panel_inv_txfm_recon_f32_clamped.Learnt (filling clamped)
+panel-inv-txfm-recon-f32-clamped-promised = (λ κs a. tt, λ κs a x left p. p)
+
+pub inv-txfm-recon-f32-clamped-lanes-promised : Promised 3 Recon.ps Recon.r inv_txfm_recon_f32_clamped_lanes.Asked inv_txfm_recon_f32_clamped_lanes.Learnt (filling clamped)
+inv-txfm-recon-f32-clamped-lanes-promised = (λ κs a. tt, λ κs a x left p. p)
+
+pub panel-inv-txfm-recon-f32-clamped-lanes-promised : Promised 3 Recon.ps Recon.r panel_inv_txfm_recon_f32_clamped_lanes.Asked panel_inv_txfm_recon_f32_clamped_lanes.Learnt (filling clamped)
+panel-inv-txfm-recon-f32-clamped-lanes-promised = (λ κs a. tt, λ κs a x left p. p)
+
+-- ---- pixels: the picture, its stride, coefficients, type, size, depth
+abbrev adding : Reading → Out 2 Add.ps Add.r
+adding how κs a x left =
+    (x, left .0 .now) ≡ addOf how (a .0 .now) (a .1 .0) (a .1 .1 .0 .now) (a .1 .1 .1 .0) (a .1 .1 .1 .1 .0) (a .1 .1 .1 .1 .1 .0)
+
+pub inv-txfm-add-promised : Promised 2 Add.ps Add.r inv_txfm_add.Asked inv_txfm_add.Learnt (adding strict)
+inv-txfm-add-promised = (λ κs a. tt, λ κs a x left p. p)
+
+pub panel-inv-txfm-add-promised : Promised 2 Add.ps Add.r panel_inv_txfm_add.Asked panel_inv_txfm_add.Learnt (adding strict)
+panel-inv-txfm-add-promised = (λ κs a. tt, λ κs a x left p. p)
+
+pub inv-txfm-add-lanes-promised : Promised 2 Add.ps Add.r inv_txfm_add_lanes.Asked inv_txfm_add_lanes.Learnt (adding strict)
+inv-txfm-add-lanes-promised = (λ κs a. tt, λ κs a x left p. p)
+
+pub panel-inv-txfm-add-lanes-promised : Promised 2 Add.ps Add.r panel_inv_txfm_add_lanes.Asked panel_inv_txfm_add_lanes.Learnt (adding strict)
+panel-inv-txfm-add-lanes-promised = (λ κs a. tt, λ κs a x left p. p)
+
+pub inv-txfm-add-rows-promised : Promised 2 Add.ps Add.r inv_txfm_add_rows.Asked inv_txfm_add_rows.Learnt (adding strictRows)
+inv-txfm-add-rows-promised = (λ κs a. tt, λ κs a x left p. p)
+
+pub panel-inv-txfm-add-rows-promised : Promised 2 Add.ps Add.r panel_inv_txfm_add_rows.Asked panel_inv_txfm_add_rows.Learnt (adding strictRows)
+panel-inv-txfm-add-rows-promised = (λ κs a. tt, λ κs a x left p. p)
+
+pub inv-txfm-add-rows-lanes-promised : Promised 2 Add.ps Add.r inv_txfm_add_rows_lanes.Asked inv_txfm_add_rows_lanes.Learnt (adding strictRows)
+inv-txfm-add-rows-lanes-promised = (λ κs a. tt, λ κs a x left p. p)
+
+pub panel-inv-txfm-add-rows-lanes-promised : Promised 2 Add.ps Add.r panel_inv_txfm_add_rows_lanes.Asked panel_inv_txfm_add_rows_lanes.Learnt (adding strictRows)
+panel-inv-txfm-add-rows-lanes-promised = (λ κs a. tt, λ κs a x left p. p)
+
+pub inv-txfm-add-clamped-promised : Promised 2 Add.ps Add.r inv_txfm_add_clamped.Asked inv_txfm_add_clamped.Learnt (adding clamped)
+inv-txfm-add-clamped-promised = (λ κs a. tt, λ κs a x left p. p)
+
+pub panel-inv-txfm-add-clamped-promised : Promised 2 Add.ps Add.r panel_inv_txfm_add_clamped.Asked panel_inv_txfm_add_clamped.Learnt (adding clamped)
+panel-inv-txfm-add-clamped-promised = (λ κs a. tt, λ κs a x left p. p)
+
+pub inv-txfm-add-clamped-lanes-promised : Promised 2 Add.ps Add.r inv_txfm_add_clamped_lanes.Asked inv_txfm_add_clamped_lanes.Learnt (adding clamped)
+inv-txfm-add-clamped-lanes-promised = (λ κs a. tt, λ κs a x left p. p)
+
+pub panel-inv-txfm-add-clamped-lanes-promised : Promised 2 Add.ps Add.r panel_inv_txfm_add_clamped_lanes.Asked panel_inv_txfm_add_clamped_lanes.Learnt (adding clamped)
+panel-inv-txfm-add-clamped-lanes-promised = (λ κs a. tt, λ κs a x left p. p)
+
+-- ---- chroma pairs: the lists u and v, sine, cosine, depth
+abbrev turning : Out 2 Cctx.ps Cctx.r
+turning κs a x left =
+    (x, (left .0 .now, left .1 .0 .now)) ≡ cctxOf (a .0 .now) (a .1 .0 .now) (a .1 .1 .0) (a .1 .1 .1 .0) (a .1 .1 .1 .1 .0)
+
+pub cctx-promised : Promised 2 Cctx.ps Cctx.r cctx.Asked cctx.Learnt turning
+cctx-promised = (λ κs a. tt, λ κs a x left p. p)
+
+pub panel-cctx-promised : Promised 2 Cctx.ps Cctx.r panel_cctx.Asked panel_cctx.Learnt turning
+panel-cctx-promised = (λ κs a. tt, λ κs a x left p. p)
+
+-- ---- the WHT: the list that is read, the list that is written
+abbrev forward : Out 2 Wht.ps Wht.r
+forward κs a x left = (x, left .1 .0 .now) ≡ fwhtOf (a .0 .now) (a .1 .0 .now)
+
+pub fwht4x4-promised : Promised 2 Wht.ps Wht.r fwht4x4.Asked fwht4x4.Learnt forward
+fwht4x4-promised = (λ κs a. tt, λ κs a x left p. p)
+
+pub panel-fwht4x4-promised : Promised 2 Wht.ps Wht.r panel_fwht4x4.Asked panel_fwht4x4.Learnt forward
+panel-fwht4x4-promised = (λ κs a. tt, λ κs a x left p. p)
+
+abbrev inverse : Out 2 Wht.ps Wht.r
+inverse κs a x left = (x, left .1 .0 .now) ≡ iwhtOf (a .0 .now) (a .1 .0 .now)
+
+pub iwht4x4-promised : Promised 2 Wht.ps Wht.r iwht4x4.Asked iwht4x4.Learnt inverse
+iwht4x4-promised = (λ κs a. tt, λ κs a x left p. p)
+
+pub panel-iwht4x4-promised : Promised 2 Wht.ps Wht.r panel_iwht4x4.Asked panel_iwht4x4.Learnt inverse
+panel-iwht4x4-promised = (λ κs a. tt, λ κs a x left p. p)
+
+-- ---- lossless steps: depth, plane, stride, width, row, column, levels
+abbrev stepping : Out 2 Lossless.ps Lossless.r
+stepping κs a x left =
+    (x, left .1 .0 .now) ≡ stepOf (a .1 .0 .now) (attempt (a .0) (a .1 .1 .0) (a .1 .1 .1 .0) (a .1 .1 .1 .1 .0) (a .1 .1 .1 .1 .1 .0) (a .1 .1 .1 .1 .1 .1 .0 .now))
+
+pub lossless-step-promised : Promised 2 Lossless.ps Lossless.r lossless_step.Asked lossless_step.Learnt stepping
+lossless-step-promised = (λ κs a. tt, λ κs a x left p. p)
+
+pub panel-lossless-step-promised : Promised 2 Lossless.ps Lossless.r panel_lossless_step.Asked panel_lossless_step.Learnt stepping
+panel-lossless-step-promised = (λ κs a. tt, λ κs a x left p. p)
+
+abbrev undoing : Out 2 Lossless.ps Lossless.r
+undoing κs a x left =
+    (x, left .1 .0 .now) ≡ undoOf (a .1 .0 .now) (attempt (a .0) (a .1 .1 .0) (a .1 .1 .1 .0) (a .1 .1 .1 .1 .0) (a .1 .1 .1 .1 .1 .0) (a .1 .1 .1 .1 .1 .1 .0 .now))
+
+pub lossless-undo-promised : Promised 2 Lossless.ps Lossless.r lossless_undo.Asked lossless_undo.Learnt undoing
+lossless-undo-promised = (λ κs a. tt, λ κs a x left p. p)
+
+pub panel-lossless-undo-promised : Promised 2 Lossless.ps Lossless.r panel_lossless_undo.Asked panel_lossless_undo.Learnt undoing
+panel-lossless-undo-promised = (λ κs a. tt, λ κs a x left p. p)
+
+-- ---- AV1: length, bits, list; bits, list
+abbrev dct : Out 1 Av1Dct.ps Av1Dct.r
+dct κs a x left = (x, left .1 .1 .0 .now) ≡ dctOf (a .0) (a .1 .0) (a .1 .1 .0 .now)
+
+pub av1-inv-dct-promised : Promised 1 Av1Dct.ps Av1Dct.r av1_inv_dct.Asked av1_inv_dct.Learnt dct
+av1-inv-dct-promised = (λ κs a. tt, λ κs a x left p. p)
+
+pub panel-av1-inv-dct-promised : Promised 1 Av1Dct.ps Av1Dct.r panel_av1_inv_dct.Asked panel_av1_inv_dct.Learnt dct
+panel-av1-inv-dct-promised = (λ κs a. tt, λ κs a x left p. p)
+
+abbrev wht : Out 1 Av1Wht.ps Av1Wht.r
+wht κs a x left = (x, left .1 .0 .now) ≡ whtOf (a .0) (a .1 .0 .now)
+
+pub av1-inv-wht4x4-promised : Promised 1 Av1Wht.ps Av1Wht.r av1_inv_wht4x4.Asked av1_inv_wht4x4.Learnt wht
+av1-inv-wht4x4-promised = (λ κs a. tt, λ κs a x left p. p)
+
+pub panel-av1-inv-wht4x4-promised : Promised 1 Av1Wht.ps Av1Wht.r panel_av1_inv_wht4x4.Asked panel_av1_inv_wht4x4.Learnt wht
+panel-av1-inv-wht4x4-promised = (λ κs a. tt, λ κs a x left p. p)

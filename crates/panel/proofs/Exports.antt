@@ -1,0 +1,113 @@
+-- Each export is the function that it wraps: what a caller of the export learns, by its contract, is what a caller of the function learns.
+-- So an export that lost its `ensures`, or has another, is refused here. Assumes nothing.
+use mathlib.Core.List.{List}
+use Prim.Native.Nat.{ℕ}
+use contract.Lifetimes.{Lfts}
+use denote.Triple.Clauses.{AtExit}
+use borrow.Fn.Kinds.{PK, RK, Dens, endedOf, resT, Out}
+use Rattle.pixels.proofs.inv_txfm_recon_f32.Kinds as Recon
+use Rattle.pixels.proofs.inv_txfm_add.Kinds as Add
+use Rattle.chroma.proofs.cctx.Kinds as Cctx
+use Rattle.wht.proofs.fwht4x4.Kinds as Wht
+use Rattle.lossless.proofs.lossless_step.Kinds as Lossless
+use Rattle.av1.proofs.av1_inv_dct.Kinds as Av1Dct
+use Rattle.av1_wht.proofs.av1_inv_wht4x4.Kinds as Av1Wht
+use Rattle.pixels.proofs.inv_txfm_recon_f32.Reads as inv_txfm_recon_f32
+use Rattle.pixels.proofs.inv_txfm_recon_f32_lanes.Reads as inv_txfm_recon_f32_lanes
+use Rattle.pixels.proofs.inv_txfm_recon_f32_rows.Reads as inv_txfm_recon_f32_rows
+use Rattle.pixels.proofs.inv_txfm_recon_f32_rows_lanes.Reads as inv_txfm_recon_f32_rows_lanes
+use Rattle.pixels.proofs.inv_txfm_recon_f32_clamped.Reads as inv_txfm_recon_f32_clamped
+use Rattle.pixels.proofs.inv_txfm_recon_f32_clamped_lanes.Reads as inv_txfm_recon_f32_clamped_lanes
+use Rattle.pixels.proofs.inv_txfm_add.Reads as inv_txfm_add
+use Rattle.pixels.proofs.inv_txfm_add_lanes.Reads as inv_txfm_add_lanes
+use Rattle.pixels.proofs.inv_txfm_add_rows.Reads as inv_txfm_add_rows
+use Rattle.pixels.proofs.inv_txfm_add_rows_lanes.Reads as inv_txfm_add_rows_lanes
+use Rattle.pixels.proofs.inv_txfm_add_clamped.Reads as inv_txfm_add_clamped
+use Rattle.pixels.proofs.inv_txfm_add_clamped_lanes.Reads as inv_txfm_add_clamped_lanes
+use Rattle.chroma.proofs.cctx.Reads as cctx
+use Rattle.wht.proofs.fwht4x4.Reads as fwht4x4
+use Rattle.wht.proofs.iwht4x4.Reads as iwht4x4
+use Rattle.lossless.proofs.lossless_step.Reads as lossless_step
+use Rattle.lossless.proofs.lossless_undo.Reads as lossless_undo
+use Rattle.av1.proofs.av1_inv_dct.Reads as av1_inv_dct
+use Rattle.av1_wht.proofs.av1_inv_wht4x4.Reads as av1_inv_wht4x4
+use Rattle.panel.proofs.panel_inv_txfm_recon_f32.Reads as panel_inv_txfm_recon_f32
+use Rattle.panel.proofs.panel_inv_txfm_recon_f32_lanes.Reads as panel_inv_txfm_recon_f32_lanes
+use Rattle.panel.proofs.panel_inv_txfm_recon_f32_rows.Reads as panel_inv_txfm_recon_f32_rows
+use Rattle.panel.proofs.panel_inv_txfm_recon_f32_rows_lanes.Reads as panel_inv_txfm_recon_f32_rows_lanes
+use Rattle.panel.proofs.panel_inv_txfm_recon_f32_clamped.Reads as panel_inv_txfm_recon_f32_clamped
+use Rattle.panel.proofs.panel_inv_txfm_recon_f32_clamped_lanes.Reads as panel_inv_txfm_recon_f32_clamped_lanes
+use Rattle.panel.proofs.panel_inv_txfm_add.Reads as panel_inv_txfm_add
+use Rattle.panel.proofs.panel_inv_txfm_add_lanes.Reads as panel_inv_txfm_add_lanes
+use Rattle.panel.proofs.panel_inv_txfm_add_rows.Reads as panel_inv_txfm_add_rows
+use Rattle.panel.proofs.panel_inv_txfm_add_rows_lanes.Reads as panel_inv_txfm_add_rows_lanes
+use Rattle.panel.proofs.panel_inv_txfm_add_clamped.Reads as panel_inv_txfm_add_clamped
+use Rattle.panel.proofs.panel_inv_txfm_add_clamped_lanes.Reads as panel_inv_txfm_add_clamped_lanes
+use Rattle.panel.proofs.panel_cctx.Reads as panel_cctx
+use Rattle.panel.proofs.panel_fwht4x4.Reads as panel_fwht4x4
+use Rattle.panel.proofs.panel_iwht4x4.Reads as panel_iwht4x4
+use Rattle.panel.proofs.panel_lossless_step.Reads as panel_lossless_step
+use Rattle.panel.proofs.panel_lossless_undo.Reads as panel_lossless_undo
+use Rattle.panel.proofs.panel_av1_inv_dct.Reads as panel_av1_inv_dct
+use Rattle.panel.proofs.panel_av1_inv_wht4x4.Reads as panel_av1_inv_wht4x4
+
+-- of a function of n lifetimes, parameters ps and result r
+abbrev Wraps : (n : ℕ) (ps : List (PK n)) (r : RK n) → Out n ps r → Out n ps r → Type 0
+Wraps n ps r export wrapped = (κs : Lfts n) (a : Dens κs ps) (x : resT r κs .Denot) (left : AtExit (endedOf n ps r) κs) → export κs a x left → wrapped κs a x left
+
+pub inv-txfm-recon-f32-wrapped : Wraps 3 Recon.ps Recon.r panel_inv_txfm_recon_f32.Learnt inv_txfm_recon_f32.Learnt
+inv-txfm-recon-f32-wrapped κs a x left p = p
+
+pub inv-txfm-recon-f32-lanes-wrapped : Wraps 3 Recon.ps Recon.r panel_inv_txfm_recon_f32_lanes.Learnt inv_txfm_recon_f32_lanes.Learnt
+inv-txfm-recon-f32-lanes-wrapped κs a x left p = p
+
+pub inv-txfm-recon-f32-rows-wrapped : Wraps 3 Recon.ps Recon.r panel_inv_txfm_recon_f32_rows.Learnt inv_txfm_recon_f32_rows.Learnt
+inv-txfm-recon-f32-rows-wrapped κs a x left p = p
+
+pub inv-txfm-recon-f32-rows-lanes-wrapped : Wraps 3 Recon.ps Recon.r panel_inv_txfm_recon_f32_rows_lanes.Learnt inv_txfm_recon_f32_rows_lanes.Learnt
+inv-txfm-recon-f32-rows-lanes-wrapped κs a x left p = p
+
+pub inv-txfm-recon-f32-clamped-wrapped : Wraps 3 Recon.ps Recon.r panel_inv_txfm_recon_f32_clamped.Learnt inv_txfm_recon_f32_clamped.Learnt
+inv-txfm-recon-f32-clamped-wrapped κs a x left p = p
+
+pub inv-txfm-recon-f32-clamped-lanes-wrapped : Wraps 3 Recon.ps Recon.r panel_inv_txfm_recon_f32_clamped_lanes.Learnt inv_txfm_recon_f32_clamped_lanes.Learnt
+inv-txfm-recon-f32-clamped-lanes-wrapped κs a x left p = p
+
+pub inv-txfm-add-wrapped : Wraps 2 Add.ps Add.r panel_inv_txfm_add.Learnt inv_txfm_add.Learnt
+inv-txfm-add-wrapped κs a x left p = p
+
+pub inv-txfm-add-lanes-wrapped : Wraps 2 Add.ps Add.r panel_inv_txfm_add_lanes.Learnt inv_txfm_add_lanes.Learnt
+inv-txfm-add-lanes-wrapped κs a x left p = p
+
+pub inv-txfm-add-rows-wrapped : Wraps 2 Add.ps Add.r panel_inv_txfm_add_rows.Learnt inv_txfm_add_rows.Learnt
+inv-txfm-add-rows-wrapped κs a x left p = p
+
+pub inv-txfm-add-rows-lanes-wrapped : Wraps 2 Add.ps Add.r panel_inv_txfm_add_rows_lanes.Learnt inv_txfm_add_rows_lanes.Learnt
+inv-txfm-add-rows-lanes-wrapped κs a x left p = p
+
+pub inv-txfm-add-clamped-wrapped : Wraps 2 Add.ps Add.r panel_inv_txfm_add_clamped.Learnt inv_txfm_add_clamped.Learnt
+inv-txfm-add-clamped-wrapped κs a x left p = p
+
+pub inv-txfm-add-clamped-lanes-wrapped : Wraps 2 Add.ps Add.r panel_inv_txfm_add_clamped_lanes.Learnt inv_txfm_add_clamped_lanes.Learnt
+inv-txfm-add-clamped-lanes-wrapped κs a x left p = p
+
+pub cctx-wrapped : Wraps 2 Cctx.ps Cctx.r panel_cctx.Learnt cctx.Learnt
+cctx-wrapped κs a x left p = p
+
+pub fwht4x4-wrapped : Wraps 2 Wht.ps Wht.r panel_fwht4x4.Learnt fwht4x4.Learnt
+fwht4x4-wrapped κs a x left p = p
+
+pub iwht4x4-wrapped : Wraps 2 Wht.ps Wht.r panel_iwht4x4.Learnt iwht4x4.Learnt
+iwht4x4-wrapped κs a x left p = p
+
+pub lossless-step-wrapped : Wraps 2 Lossless.ps Lossless.r panel_lossless_step.Learnt lossless_step.Learnt
+lossless-step-wrapped κs a x left p = p
+
+pub lossless-undo-wrapped : Wraps 2 Lossless.ps Lossless.r panel_lossless_undo.Learnt lossless_undo.Learnt
+lossless-undo-wrapped κs a x left p = p
+
+pub av1-inv-dct-wrapped : Wraps 1 Av1Dct.ps Av1Dct.r panel_av1_inv_dct.Learnt av1_inv_dct.Learnt
+av1-inv-dct-wrapped κs a x left p = p
+
+pub av1-inv-wht4x4-wrapped : Wraps 1 Av1Wht.ps Av1Wht.r panel_av1_inv_wht4x4.Learnt av1_inv_wht4x4.Learnt
+av1-inv-wht4x4-wrapped κs a x left p = p
