@@ -8,13 +8,16 @@ use stream::nums;
 
 // Whether there is a call of that number.
 pub fn known(call: u64) -> bool {
-    1 <= call && call <= 9
+    match call {
+        1..=9 | 14..=17 => true,
+        _ => false,
+    }
 }
 
 // How many slices a call has. A third one is floats.
 pub fn slices(call: u64) -> usize {
     match call {
-        1 | 2 => 3,
+        1 | 2 | 14 | 15 => 3,
         _ => 2,
     }
 }
@@ -25,8 +28,8 @@ pub fn words(call: u64) -> usize
 {
     match call {
         6 | 7 => 0,
-        1 | 2 | 5 => 3,
-        3 | 4 => 4,
+        1 | 2 | 5 | 14 | 15 => 3,
+        3 | 4 | 16 | 17 => 4,
         _ => 5,
     }
 }
@@ -50,7 +53,9 @@ fn recon(call: u64, words: [u64; 6], coeff: &[i32], pred: &[i32], out: &mut [f32
     let txtp = words[2] as usize;
     match call {
         1 => pixels::inv_txfm_recon_f32(out, coeff, txtp, tx, depth, pred),
-        _ => pixels::inv_txfm_recon_f32_lanes(out, coeff, txtp, tx, depth, pred),
+        2 => pixels::inv_txfm_recon_f32_lanes(out, coeff, txtp, tx, depth, pred),
+        14 => pixels::inv_txfm_recon_f32_clamped(out, coeff, txtp, tx, depth, pred),
+        _ => pixels::inv_txfm_recon_f32_clamped_lanes(out, coeff, txtp, tx, depth, pred),
     }
 }
 
@@ -62,7 +67,9 @@ fn add(call: u64, words: [u64; 6], coeff: &[i32], plane: &mut [i32]) -> Answer {
     let stride = words[3] as usize;
     match call {
         3 => pixels::inv_txfm_add(plane, stride, coeff, txtp, tx, depth),
-        _ => pixels::inv_txfm_add_lanes(plane, stride, coeff, txtp, tx, depth),
+        4 => pixels::inv_txfm_add_lanes(plane, stride, coeff, txtp, tx, depth),
+        16 => pixels::inv_txfm_add_clamped(plane, stride, coeff, txtp, tx, depth),
+        _ => pixels::inv_txfm_add_clamped_lanes(plane, stride, coeff, txtp, tx, depth),
     }
 }
 
@@ -90,7 +97,7 @@ fn step(call: u64, words: [u64; 6], levels: &[i32], plane: &mut [i32]) -> Answer
 // Runs a call of two slices.
 pub fn run(call: u64, words: [u64; 6], a: &mut [i32], b: &mut [i32]) -> Answer {
     match call {
-        3 | 4 => add(call, words, a, b),
+        3 | 4 | 16 | 17 => add(call, words, a, b),
         5 => chroma_pairs(words, a, b),
         6 => wht::fwht4x4(a, b),
         7 => wht::iwht4x4(a, b),
