@@ -9,7 +9,7 @@ use stream::nums;
 // Whether there is a call of that number.
 pub fn known(call: u64) -> bool {
     match call {
-        1..=9 | 14..=17 => true,
+        1..=17 => true,
         _ => false,
     }
 }
@@ -17,7 +17,7 @@ pub fn known(call: u64) -> bool {
 // How many slices a call has. A third one is floats.
 pub fn slices(call: u64) -> usize {
     match call {
-        1 | 2 | 14 | 15 => 3,
+        1 | 2 | 10 | 11 | 14 | 15 => 3,
         _ => 2,
     }
 }
@@ -28,8 +28,8 @@ pub fn words(call: u64) -> usize
 {
     match call {
         6 | 7 => 0,
-        1 | 2 | 5 | 14 | 15 => 3,
-        3 | 4 | 16 | 17 => 4,
+        1 | 2 | 5 | 10 | 11 | 14 | 15 => 3,
+        3 | 4 | 12 | 13 | 16 | 17 => 4,
         _ => 5,
     }
 }
@@ -54,6 +54,8 @@ fn recon(call: u64, words: [u64; 6], coeff: &[i32], pred: &[i32], out: &mut [f32
     match call {
         1 => pixels::inv_txfm_recon_f32(out, coeff, txtp, tx, depth, pred),
         2 => pixels::inv_txfm_recon_f32_lanes(out, coeff, txtp, tx, depth, pred),
+        10 => pixels::inv_txfm_recon_f32_rows(out, coeff, txtp, tx, depth, pred),
+        11 => pixels::inv_txfm_recon_f32_rows_lanes(out, coeff, txtp, tx, depth, pred),
         14 => pixels::inv_txfm_recon_f32_clamped(out, coeff, txtp, tx, depth, pred),
         _ => pixels::inv_txfm_recon_f32_clamped_lanes(out, coeff, txtp, tx, depth, pred),
     }
@@ -68,6 +70,8 @@ fn add(call: u64, words: [u64; 6], coeff: &[i32], plane: &mut [i32]) -> Answer {
     match call {
         3 => pixels::inv_txfm_add(plane, stride, coeff, txtp, tx, depth),
         4 => pixels::inv_txfm_add_lanes(plane, stride, coeff, txtp, tx, depth),
+        12 => pixels::inv_txfm_add_rows(plane, stride, coeff, txtp, tx, depth),
+        13 => pixels::inv_txfm_add_rows_lanes(plane, stride, coeff, txtp, tx, depth),
         16 => pixels::inv_txfm_add_clamped(plane, stride, coeff, txtp, tx, depth),
         _ => pixels::inv_txfm_add_clamped_lanes(plane, stride, coeff, txtp, tx, depth),
     }
@@ -97,7 +101,7 @@ fn step(call: u64, words: [u64; 6], levels: &[i32], plane: &mut [i32]) -> Answer
 // Runs a call of two slices.
 pub fn run(call: u64, words: [u64; 6], a: &mut [i32], b: &mut [i32]) -> Answer {
     match call {
-        3 | 4 | 16 | 17 => add(call, words, a, b),
+        3 | 4 | 12 | 13 | 16 | 17 => add(call, words, a, b),
         5 => chroma_pairs(words, a, b),
         6 => wht::fwht4x4(a, b),
         7 => wht::iwht4x4(a, b),
