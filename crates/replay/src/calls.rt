@@ -9,7 +9,7 @@ use stream::nums;
 // Whether there is a call of that number.
 pub fn known(call: u64) -> bool {
     match call {
-        1..=17 => true,
+        1..=17 | 34 | 35 => true,
         _ => false,
     }
 }
@@ -17,6 +17,7 @@ pub fn known(call: u64) -> bool {
 // How many slices a call has. A third one is floats.
 pub fn slices(call: u64) -> usize {
     match call {
+        34 | 35 => 1,
         1 | 2 | 10 | 11 | 14 | 15 => 3,
         _ => 2,
     }
@@ -28,16 +29,25 @@ pub fn words(call: u64) -> usize
 {
     match call {
         6 | 7 => 0,
+        35 => 1,
+        34 => 2,
         1 | 2 | 5 | 10 | 11 | 14 | 15 => 3,
         3 | 4 | 12 | 13 | 16 | 17 => 4,
         _ => 5,
     }
 }
 
-// Whether the words fit the arguments' types: the depth, first of the words wherever there are any, and the two of an angle.
-// The others are words themselves.
+// The word of a call that has to be a u32: its depth or its bits.
+fn narrow(call: u64, words: [u64; 6]) -> u64 {
+    match call {
+        34 => words[1],
+        _ => words[0],
+    }
+}
+
+// Whether the words fit the arguments' types: a depth or a bit count, and the two of an angle. The others are words themselves.
 pub fn in_types(call: u64, words: [u64; 6]) -> bool {
-    if 4294967295 < words[0] {
+    if 4294967295 < narrow(call, words) {
         return false;
     }
     if call == 5 {
@@ -95,6 +105,15 @@ fn step(call: u64, words: [u64; 6], levels: &[i32], plane: &mut [i32]) -> Answer
     match call {
         8 => lossless::lossless_step(depth, plane, stride, width, row, column, levels),
         _ => lossless::lossless_undo(depth, plane, stride, width, row, column, levels),
+    }
+}
+
+// Runs a call of one slice: the inverse transforms of AV1.
+pub fn run_list(call: u64, words: [u64; 6], list: &mut [i32]) -> Answer {
+    let bits = nums::low(narrow(call, words));
+    match call {
+        34 => av1::av1_inv_dct(words[0] as usize, bits, list),
+        _ => av1_wht::av1_inv_wht4x4(bits, list),
     }
 }
 

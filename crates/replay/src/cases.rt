@@ -12,6 +12,14 @@ fn broken() -> bool {
     false
 }
 
+// Runs and answers a case of one slice.
+fn answer_list(call: u64, words: [u64; 6], bytes: &mut [u8], a: &mut [i32]) -> bool
+    requires { ⌜ Kept (now bytes) (now a) ⌝ }
+{
+    let r = calls::run_list(call, words, a);
+    slices::write_answer(r) && slices::write_slice(bytes, a)
+}
+
 // Writes what a call of two slices writes: both of a chroma pair, else the second.
 fn write_pair(call: u64, bytes: &mut [u8], a: &[i32], b: &[i32]) -> bool
     requires { ⌜ Kept (now bytes) (now a) × Kept (now bytes) (now b) ⌝ }
@@ -95,7 +103,7 @@ fn second(
     third(call, words, bytes, a, &b[..n], c, f)
 }
 
-// Goes on to the other slices of a case.
+// Goes on to the other slices of a case, if it has others.
 fn others(
     call: u64,
     words: [u64; 6],
@@ -108,6 +116,7 @@ fn others(
     requires { ⌜ ByteRoom (now bytes) × Kept (now bytes) (now a) × Room (now b) × Room (now c) × Room (now f) ⌝ }
 {
     match calls::slices(call) {
+        1 => answer_list(call, words, bytes, a),
         3 => second(call, words, bytes, a, b, c, f),
         _ => last(call, words, bytes, a, b),
     }
