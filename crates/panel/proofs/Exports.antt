@@ -1,10 +1,10 @@
--- Each export is the function that it wraps: what a caller of the export learns, by its contract, is what a caller of the function learns.
--- So an export that lost its `ensures`, or has another, is refused here. Assumes nothing.
+-- Each export is the function that it wraps: it asks nothing of its caller, and what the caller learns, by the export's contract, is what a caller
+-- of the function learns. So an export with a `requires`, without its `ensures` or with another, is refused here. Assumes nothing.
 use mathlib.Core.List.{List}
 use Prim.Native.Nat.{ℕ}
 use contract.Lifetimes.{Lfts}
 use denote.Triple.Clauses.{AtExit}
-use borrow.Fn.Kinds.{PK, RK, Dens, endedOf, resT, Out}
+use borrow.Fn.Kinds.{PK, RK, Dens, endedOf, resT, In, Out}
 use Rattle.pixels.proofs.inv_txfm_recon_f32.Kinds as Recon
 use Rattle.pixels.proofs.inv_txfm_add.Kinds as Add
 use Rattle.chroma.proofs.cctx.Kinds as Cctx
@@ -52,62 +52,64 @@ use Rattle.panel.proofs.panel_av1_inv_dct.Reads as panel_av1_inv_dct
 use Rattle.panel.proofs.panel_av1_inv_wht4x4.Reads as panel_av1_inv_wht4x4
 
 -- of a function of n lifetimes, parameters ps and result r
-abbrev Wraps : (n : ℕ) (ps : List (PK n)) (r : RK n) → Out n ps r → Out n ps r → Type 0
-Wraps n ps r export wrapped = (κs : Lfts n) (a : Dens κs ps) (x : resT r κs .Denot) (left : AtExit (endedOf n ps r) κs) → export κs a x left → wrapped κs a x left
+abbrev Wraps : (n : ℕ) (ps : List (PK n)) (r : RK n) → In n ps → Out n ps r → Out n ps r → Type 0
+Wraps n ps r asked learnt wrapped =
+    ((κs : Lfts n) (a : Dens κs ps) → asked κs a)
+    × ((κs : Lfts n) (a : Dens κs ps) (x : resT r κs .Denot) (left : AtExit (endedOf n ps r) κs) → learnt κs a x left → wrapped κs a x left)
 
-pub inv-txfm-recon-f32-wrapped : Wraps 3 Recon.ps Recon.r panel_inv_txfm_recon_f32.Learnt inv_txfm_recon_f32.Learnt
-inv-txfm-recon-f32-wrapped κs a x left p = p
+pub inv-txfm-recon-f32-wrapped : Wraps 3 Recon.ps Recon.r panel_inv_txfm_recon_f32.Asked panel_inv_txfm_recon_f32.Learnt inv_txfm_recon_f32.Learnt
+inv-txfm-recon-f32-wrapped = (λ κs a. tt, λ κs a x left p. p)
 
-pub inv-txfm-recon-f32-lanes-wrapped : Wraps 3 Recon.ps Recon.r panel_inv_txfm_recon_f32_lanes.Learnt inv_txfm_recon_f32_lanes.Learnt
-inv-txfm-recon-f32-lanes-wrapped κs a x left p = p
+pub inv-txfm-recon-f32-lanes-wrapped : Wraps 3 Recon.ps Recon.r panel_inv_txfm_recon_f32_lanes.Asked panel_inv_txfm_recon_f32_lanes.Learnt inv_txfm_recon_f32_lanes.Learnt
+inv-txfm-recon-f32-lanes-wrapped = (λ κs a. tt, λ κs a x left p. p)
 
-pub inv-txfm-recon-f32-rows-wrapped : Wraps 3 Recon.ps Recon.r panel_inv_txfm_recon_f32_rows.Learnt inv_txfm_recon_f32_rows.Learnt
-inv-txfm-recon-f32-rows-wrapped κs a x left p = p
+pub inv-txfm-recon-f32-rows-wrapped : Wraps 3 Recon.ps Recon.r panel_inv_txfm_recon_f32_rows.Asked panel_inv_txfm_recon_f32_rows.Learnt inv_txfm_recon_f32_rows.Learnt
+inv-txfm-recon-f32-rows-wrapped = (λ κs a. tt, λ κs a x left p. p)
 
-pub inv-txfm-recon-f32-rows-lanes-wrapped : Wraps 3 Recon.ps Recon.r panel_inv_txfm_recon_f32_rows_lanes.Learnt inv_txfm_recon_f32_rows_lanes.Learnt
-inv-txfm-recon-f32-rows-lanes-wrapped κs a x left p = p
+pub inv-txfm-recon-f32-rows-lanes-wrapped : Wraps 3 Recon.ps Recon.r panel_inv_txfm_recon_f32_rows_lanes.Asked panel_inv_txfm_recon_f32_rows_lanes.Learnt inv_txfm_recon_f32_rows_lanes.Learnt
+inv-txfm-recon-f32-rows-lanes-wrapped = (λ κs a. tt, λ κs a x left p. p)
 
-pub inv-txfm-recon-f32-clamped-wrapped : Wraps 3 Recon.ps Recon.r panel_inv_txfm_recon_f32_clamped.Learnt inv_txfm_recon_f32_clamped.Learnt
-inv-txfm-recon-f32-clamped-wrapped κs a x left p = p
+pub inv-txfm-recon-f32-clamped-wrapped : Wraps 3 Recon.ps Recon.r panel_inv_txfm_recon_f32_clamped.Asked panel_inv_txfm_recon_f32_clamped.Learnt inv_txfm_recon_f32_clamped.Learnt
+inv-txfm-recon-f32-clamped-wrapped = (λ κs a. tt, λ κs a x left p. p)
 
-pub inv-txfm-recon-f32-clamped-lanes-wrapped : Wraps 3 Recon.ps Recon.r panel_inv_txfm_recon_f32_clamped_lanes.Learnt inv_txfm_recon_f32_clamped_lanes.Learnt
-inv-txfm-recon-f32-clamped-lanes-wrapped κs a x left p = p
+pub inv-txfm-recon-f32-clamped-lanes-wrapped : Wraps 3 Recon.ps Recon.r panel_inv_txfm_recon_f32_clamped_lanes.Asked panel_inv_txfm_recon_f32_clamped_lanes.Learnt inv_txfm_recon_f32_clamped_lanes.Learnt
+inv-txfm-recon-f32-clamped-lanes-wrapped = (λ κs a. tt, λ κs a x left p. p)
 
-pub inv-txfm-add-wrapped : Wraps 2 Add.ps Add.r panel_inv_txfm_add.Learnt inv_txfm_add.Learnt
-inv-txfm-add-wrapped κs a x left p = p
+pub inv-txfm-add-wrapped : Wraps 2 Add.ps Add.r panel_inv_txfm_add.Asked panel_inv_txfm_add.Learnt inv_txfm_add.Learnt
+inv-txfm-add-wrapped = (λ κs a. tt, λ κs a x left p. p)
 
-pub inv-txfm-add-lanes-wrapped : Wraps 2 Add.ps Add.r panel_inv_txfm_add_lanes.Learnt inv_txfm_add_lanes.Learnt
-inv-txfm-add-lanes-wrapped κs a x left p = p
+pub inv-txfm-add-lanes-wrapped : Wraps 2 Add.ps Add.r panel_inv_txfm_add_lanes.Asked panel_inv_txfm_add_lanes.Learnt inv_txfm_add_lanes.Learnt
+inv-txfm-add-lanes-wrapped = (λ κs a. tt, λ κs a x left p. p)
 
-pub inv-txfm-add-rows-wrapped : Wraps 2 Add.ps Add.r panel_inv_txfm_add_rows.Learnt inv_txfm_add_rows.Learnt
-inv-txfm-add-rows-wrapped κs a x left p = p
+pub inv-txfm-add-rows-wrapped : Wraps 2 Add.ps Add.r panel_inv_txfm_add_rows.Asked panel_inv_txfm_add_rows.Learnt inv_txfm_add_rows.Learnt
+inv-txfm-add-rows-wrapped = (λ κs a. tt, λ κs a x left p. p)
 
-pub inv-txfm-add-rows-lanes-wrapped : Wraps 2 Add.ps Add.r panel_inv_txfm_add_rows_lanes.Learnt inv_txfm_add_rows_lanes.Learnt
-inv-txfm-add-rows-lanes-wrapped κs a x left p = p
+pub inv-txfm-add-rows-lanes-wrapped : Wraps 2 Add.ps Add.r panel_inv_txfm_add_rows_lanes.Asked panel_inv_txfm_add_rows_lanes.Learnt inv_txfm_add_rows_lanes.Learnt
+inv-txfm-add-rows-lanes-wrapped = (λ κs a. tt, λ κs a x left p. p)
 
-pub inv-txfm-add-clamped-wrapped : Wraps 2 Add.ps Add.r panel_inv_txfm_add_clamped.Learnt inv_txfm_add_clamped.Learnt
-inv-txfm-add-clamped-wrapped κs a x left p = p
+pub inv-txfm-add-clamped-wrapped : Wraps 2 Add.ps Add.r panel_inv_txfm_add_clamped.Asked panel_inv_txfm_add_clamped.Learnt inv_txfm_add_clamped.Learnt
+inv-txfm-add-clamped-wrapped = (λ κs a. tt, λ κs a x left p. p)
 
-pub inv-txfm-add-clamped-lanes-wrapped : Wraps 2 Add.ps Add.r panel_inv_txfm_add_clamped_lanes.Learnt inv_txfm_add_clamped_lanes.Learnt
-inv-txfm-add-clamped-lanes-wrapped κs a x left p = p
+pub inv-txfm-add-clamped-lanes-wrapped : Wraps 2 Add.ps Add.r panel_inv_txfm_add_clamped_lanes.Asked panel_inv_txfm_add_clamped_lanes.Learnt inv_txfm_add_clamped_lanes.Learnt
+inv-txfm-add-clamped-lanes-wrapped = (λ κs a. tt, λ κs a x left p. p)
 
-pub cctx-wrapped : Wraps 2 Cctx.ps Cctx.r panel_cctx.Learnt cctx.Learnt
-cctx-wrapped κs a x left p = p
+pub cctx-wrapped : Wraps 2 Cctx.ps Cctx.r panel_cctx.Asked panel_cctx.Learnt cctx.Learnt
+cctx-wrapped = (λ κs a. tt, λ κs a x left p. p)
 
-pub fwht4x4-wrapped : Wraps 2 Wht.ps Wht.r panel_fwht4x4.Learnt fwht4x4.Learnt
-fwht4x4-wrapped κs a x left p = p
+pub fwht4x4-wrapped : Wraps 2 Wht.ps Wht.r panel_fwht4x4.Asked panel_fwht4x4.Learnt fwht4x4.Learnt
+fwht4x4-wrapped = (λ κs a. tt, λ κs a x left p. p)
 
-pub iwht4x4-wrapped : Wraps 2 Wht.ps Wht.r panel_iwht4x4.Learnt iwht4x4.Learnt
-iwht4x4-wrapped κs a x left p = p
+pub iwht4x4-wrapped : Wraps 2 Wht.ps Wht.r panel_iwht4x4.Asked panel_iwht4x4.Learnt iwht4x4.Learnt
+iwht4x4-wrapped = (λ κs a. tt, λ κs a x left p. p)
 
-pub lossless-step-wrapped : Wraps 2 Lossless.ps Lossless.r panel_lossless_step.Learnt lossless_step.Learnt
-lossless-step-wrapped κs a x left p = p
+pub lossless-step-wrapped : Wraps 2 Lossless.ps Lossless.r panel_lossless_step.Asked panel_lossless_step.Learnt lossless_step.Learnt
+lossless-step-wrapped = (λ κs a. tt, λ κs a x left p. p)
 
-pub lossless-undo-wrapped : Wraps 2 Lossless.ps Lossless.r panel_lossless_undo.Learnt lossless_undo.Learnt
-lossless-undo-wrapped κs a x left p = p
+pub lossless-undo-wrapped : Wraps 2 Lossless.ps Lossless.r panel_lossless_undo.Asked panel_lossless_undo.Learnt lossless_undo.Learnt
+lossless-undo-wrapped = (λ κs a. tt, λ κs a x left p. p)
 
-pub av1-inv-dct-wrapped : Wraps 1 Av1Dct.ps Av1Dct.r panel_av1_inv_dct.Learnt av1_inv_dct.Learnt
-av1-inv-dct-wrapped κs a x left p = p
+pub av1-inv-dct-wrapped : Wraps 1 Av1Dct.ps Av1Dct.r panel_av1_inv_dct.Asked panel_av1_inv_dct.Learnt av1_inv_dct.Learnt
+av1-inv-dct-wrapped = (λ κs a. tt, λ κs a x left p. p)
 
-pub av1-inv-wht4x4-wrapped : Wraps 1 Av1Wht.ps Av1Wht.r panel_av1_inv_wht4x4.Learnt av1_inv_wht4x4.Learnt
-av1-inv-wht4x4-wrapped κs a x left p = p
+pub av1-inv-wht4x4-wrapped : Wraps 1 Av1Wht.ps Av1Wht.r panel_av1_inv_wht4x4.Asked panel_av1_inv_wht4x4.Learnt av1_inv_wht4x4.Learnt
+av1-inv-wht4x4-wrapped = (λ κs a. tt, λ κs a x left p. p)
