@@ -44,7 +44,7 @@ fn first_leaving(plane: &[i32], gains: &[i32], start: usize, stride: usize, hi: 
 }
 
 // The refusals 8 and 10, or Done.
-fn judge(plane: &[i32], gains: &[i32], depth: u32, start: usize, stride: usize) -> Answer
+pub fn judge(plane: &[i32], gains: &[i32], depth: u32, start: usize, stride: usize) -> Answer
     requires { ⌜ (depth ≤ 12) × (start + 3 * stride + 4 ≤ length (now plane)) × Sixteen 1048576 (now gains) ⌝ }
     ensures { λ r. ⌜ r ≡ samples (sample depth) (cellAt start stride 4) (now (plane .entry)) (numbers (now (gains .entry))) ⌝ }
 {
@@ -61,7 +61,7 @@ fn judge(plane: &[i32], gains: &[i32], depth: u32, start: usize, stride: usize) 
 }
 
 // Each sample of the block gains its number.
-fn add(plane: &mut [i32], gains: &[i32], start: usize, stride: usize)
+pub fn add(plane: &mut [i32], gains: &[i32], start: usize, stride: usize)
     requires { ⌜ Addable (now plane) start stride (now gains) × (4 ≤ stride) ⌝ }
     ensures { λ _. ⌜ now (plane .exit) ≡ gained (cellAt start stride 4) (numbers (now (gains .entry))) (now (plane .entry)) ⌝ }
 {

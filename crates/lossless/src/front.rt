@@ -14,7 +14,7 @@ pub fn between(n: usize, lo: usize, hi: usize) -> bool
 }
 
 // Whether the block lies in the visible part of a plane of n samples. The tests before the sum keep it from wrapping.
-fn block_fits(n: usize, stride: usize, width: usize, row: usize, column: usize) -> bool
+pub fn block_fits(n: usize, stride: usize, width: usize, row: usize, column: usize) -> bool
     requires { ⌜ (4 ≤ width) × (width ≤ stride) × (stride ≤ 65536) ⌝ }
     ensures { λ r. ⌜ r ≡ fits (place 0 stride width row column) n ⌝ }
 {

@@ -29,7 +29,7 @@ fn negate(l: &mut [i32])
 }
 
 // What the block's samples gain: the residuals of the levels, in an undo with the other sign.
-fn changes(level: &[i32], undo: bool, out: &mut [i32])
+pub fn changes(level: &[i32], undo: bool, out: &mut [i32])
     requires { ⌜ Sixteen 262144 (now level) × (length (now out) ≡ 16) ⌝ }
     ensures { λ _. ⌜ now (out .exit) ≡ change undo (now (level .entry)) ⌝ }
 {

@@ -1,4 +1,4 @@
--- The remaining steps of a history, as lent memory holds them. Definitions only; from request 9 of document 02.
+-- The remaining steps of a history, as lent memory holds them. Definitions only; from document 02, section 9.
 -- Memory that is all zero is the empty history.
 --     steps, 16,385 numbers: the count, then for each step its number, depth, row and column, the oldest first
 --     levels, 65,536 numbers: for each step its sixteen
@@ -8,6 +8,7 @@
 --     entries s l n         the same with their levels
 --     last p n              the last i below n at which the test p holds, counted from 1; 0 where there is none
 --     numberBefore s i      the number of step i - 1; 0 where i is 0
+--     putMark, addedTo      the four numbers of a step written, and one more step at the end
 use mathlib.Core.Bool.{Bool, cond}
 use mathlib.Core.List.{List, [], _∷_, _++_}
 use Prim.Native.Nat.{ℕ, zero, suc, _+_, _*_}
@@ -77,3 +78,7 @@ putMark i m s = set (set (set (set s (4 * i + 1) (m .number)) (4 * i + 1 + 1) (m
 -- from place a on the numbers new
 abbrev pub putOn : {A : Type 0} → ℕ → List A → ℕ → List A → List A
 putOn a new n l = take a l ++ (new ++ drop (a + n) l)
+
+-- one more step at the end, with the next number
+abbrev pub addedTo : ℕ → ℕ → ℕ → List ℕ → List ℕ
+addedTo d r c s = set (putMark (count s) (mark (numberBefore s (count s) + 1) d r c) s) 0 (count s + 1)
