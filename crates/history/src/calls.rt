@@ -1,4 +1,4 @@
-// The samples of a call whose arguments and history are in range: the refusals 8 and 10, then 13 or 14, then the work.
+// The samples of a call whose arguments and history are in range: the refusals 8 and 10, 14, and the work. s is the list of steps, l their levels.
 ghost use mathlib.Core.Path.{_≡_};
 ghost use Prim.Native.Nat.{_+_, _*_, _-_, _≤_, _<_};
 ghost use lib.ListN.{length};
@@ -7,14 +7,12 @@ ghost use Rattle.whole.specs.Search.{cellAt};
 ghost use Rattle.wht.specs.Calls.{Sixteen};
 ghost use Rattle.lossless.specs.Gains.{numbers, samples};
 ghost use Rattle.lossless.specs.Step.{sample};
-ghost use Rattle.remain.specs.Remaining.{count, word, numberBefore, entryAt, marks, putOn};
+ghost use Rattle.remain.specs.Remaining.{count, word, levelsAt, numberBefore, entryAt, marks, putOn, addedTo};
 ghost use Rattle.remain.specs.Touch.{across, mended};
 ghost use Rattle.remain.specs.Without.{stepsWithout, levelsWithout};
 ghost use Rattle.keeping.specs.Range.{area, frontOf};
-ghost use Rattle.history.specs.Calls.{lent, room, andThen, undoing, stepSamples, stepped, takenOut};
-ghost use Rattle.remain.specs.Remaining.{addedTo};
-ghost use Rattle.keeping.specs.Bounds.{Keeping};
-ghost use Rattle.history.specs.Bounds.{Writable};
+ghost use Rattle.history.specs.Calls.{lent, room, andThen, undoing, stepSamples, stepped, takenOut, losses as Calls·losses};
+ghost use Rattle.history.specs.Bounds.{Writable, Undoable};
 use remain::cells;
 use remain::list;
 use remain::words;
@@ -133,36 +131,56 @@ fn drop_step(
     cells::mend(s, n - 1, width, rows, row, column, index);
 }
 
-// The undo of step i, which is taken out of the list, unless the answer given refuses.
+// What the block of step i loses in its undo.
+fn losses(l: &[i32], i: usize, out: &mut [i32])
+    requires { ⌜ (i < 4096) × (length (now l) ≡ 65536) × Sixteen 262144 (levelsAt (now l) i) × (length (now out) ≡ 16) ⌝ }
+    ensures { λ _. ⌜ now (out .exit) ≡ Calls·losses (levelsAt (now (l .entry)) i) ⌝ }
+{
+    let a = 16 * i;
+    let e = a + 16;
+    lossless::changes(&l[a..e], true, out);
+}
+
+// Where the block of step i starts in the plane.
+fn start_of(s: &[u32], stride: usize, i: usize) -> usize
+    requires { ⌜ (i < 4096) × (length (now s) ≡ 16385) × (word (now s) i 2 * stride ≤ 65536 * 65536) × (word (now s) i 3 ≤ 65536) ⌝ }
+    ensures { λ r. ⌜ r ≡ word (now (s .entry)) i 2 * stride + word (now (s .entry)) i 3 ⌝ }
+{
+    let b = 4 * i + 1;
+    words::word(s, b + 2) * stride + words::word(s, b + 3)
+}
+
+// The refusals 8 and 10 of the undo of step i.
+pub fn judge_out(plane: &[i32], stride: usize, i: usize, s: &[u32], l: &[i32]) -> Answer
+    requires { ⌜ Undoable (now plane) stride (now s) (now l) i ⌝ }
+    ensures { λ r. ⌜ r ≡ undoing stride (now (plane .entry)) (entryAt (now (s .entry)) (now (l .entry)) i) ⌝ }
+{
+    let start = start_of(s, stride, i);
+    let depth = s[4 * i + 2];
+    let mut gains = [0i32; 16];
+    losses(l, i, &mut gains);
+    lossless::block::judge(plane, &gains, depth, start, stride)
+}
+
+// The undo of step i, which its samples allow, and which is taken out of the list.
 pub fn take_out(
     plane: &mut [i32],
     stride: usize,
     width: usize,
     rows: usize,
     i: usize,
-    rest: Answer,
     s: &mut [u32],
     l: &mut [i32],
     index: &mut [u32],
-) -> Answer
-    requires { ⌜ Keeping (area (length (now plane)) stride width rows) (now s) (now l) (length (now index)) × (i < count (now s)) ⌝ }
-    ensures { λ r. ⌜ (r, lent (now (plane .exit)) (now (s .exit)) (now (l .exit)) (now (index .exit)))
-        ≡ ends (andThen (undoing (area (length (now (plane .entry))) stride width rows) (now (plane .entry)) (entryAt (now (s .entry)) (now (l .entry)) i)) rest)
-            (lent (now (plane .entry)) (now (s .entry)) (now (l .entry)) (now (index .entry)))
-            (takenOut (area (length (now (plane .entry))) stride width rows) i (lent (now (plane .entry)) (now (s .entry)) (now (l .entry)) (now (index .entry)))) ⌝ }
+)
+    requires { ⌜ Undoable (now plane) stride (now s) (now l) i × Writable width rows (word (now s) i 2) (word (now s) i 3) (now s) (now l) (now index) ⌝ }
+    requires { ⌜ (i < count (now s)) × (undoing stride (now plane) (entryAt (now s) (now l) i) .number ≡ 0) ⌝ }
+    ensures { λ _. ⌜ lent (now (plane .exit)) (now (s .exit)) (now (l .exit)) (now (index .exit))
+        ≡ takenOut (area 0 stride width rows) i (lent (now (plane .entry)) (now (s .entry)) (now (l .entry)) (now (index .entry))) ⌝ }
 {
-    let b = 4 * i + 1;
-    let depth = s[b + 1];
-    let start = words::word(s, b + 2) * stride + words::word(s, b + 3);
+    let start = start_of(s, stride, i);
     let mut gains = [0i32; 16];
-    let a = 16 * i;
-    let e = a + 16;
-    lossless::changes(&l[a..e], true, &mut gains);
-    let r = judge(plane, &gains, depth, start, stride, rest);
-    if r.number != 0 {
-        return r;
-    }
+    losses(l, i, &mut gains);
     lossless::block::add(plane, &gains, start, stride);
     drop_step(width, rows, i, s, l, index);
-    r
 }

@@ -2,7 +2,7 @@
 --     shape-is, stands-is       as facts on numbers
 --     sound-is, sound-make      the test of 12 passes exactly where the history is in range
 --     kept-is                   the answer by 5 and 12 alone is Done
---     entry-is, Entered         one step of such a history
+--     entry-is, Entered         one step of such a history; lying-is: all of them lie in the visible area
 --     front-is, Fronted         the answer by a step's arguments is Done
 use mathlib.Core.Path.{_≡_}
 use mathlib.Core.Bool.{true, _&&_}
@@ -26,6 +26,7 @@ use Rattle.lossless.specs.Step.{place, fits}
 use Rattle.lossless.proofs.Arguments.{fit-is, column-is}
 use Rattle.remain.specs.Remaining.{count, numberAt, word, levelsAt, numberBefore}
 use Rattle.remain.specs.Touch.{across}
+use Rattle.remain.specs.Bounds.{Lying}
 use Rattle.keeping.specs.Range.{Area, within, shaped, stands, firstOff, markOk, entryOk, sound, kept, frontOf}
 use Rattle.keeping.specs.Bounds.{Keeping}
 
@@ -113,6 +114,9 @@ entry-is a s l i fit e =
 
 pub entered : {a : Area} {s : List ℕ} {l : List ℤ} {k : ℕ} → Keeping a s l k → (i : ℕ) → i < count s → Entered a s l i
 entered {a} {s} {l} q i h = entry-is a s l i (omega (arith, q .levels, q .most)) (q .each i h)
+
+pub lying-is : {a : Area} {s : List ℕ} {l : List ℤ} {k : ℕ} → Keeping a s l k → Lying s (a .width) (a .rows) (count s)
+lying-is q = record { right = λ i h. entered q i h .stand .right; low = λ i h. entered q i h .stand .low }
 
 -- ---- a step's arguments
 pub record Fronted (a : Area) (d r c : ℕ) (v : List ℤ) (s : List ℕ) (l : List ℤ) (k : ℕ) : Type 0 where

@@ -1,4 +1,4 @@
--- The remaining steps of a history in lent memory, from request 9 of document 02.
+-- The remaining steps of a history in lent memory, from document 02, section 9.
 --     Remaining    the list of remaining steps, as the lent slices hold it
 --     Touch        which steps share a sample, and the last-touch index
 --     Without      a step taken out of the list

@@ -1,4 +1,4 @@
--- Which steps share a sample, and the last-touch index. Definitions only; from request 9 of document 02.
+-- Which steps share a sample, and the last-touch index. Definitions only; from document 02, section 9.
 --     shares r c r' c'          the 4x4 blocks at row r, column c and at row r', column c' share a sample
 --     lastTouch r c ms          the number of the first of ms, newest first, that shares a sample with the block at r, c; 0 for none
 --     across n                  how many cells of four cover n samples

@@ -5,7 +5,7 @@ use Rattle.remain.specs.Remaining.{count, marks}
 use Rattle.remain.specs.Touch.{indexOf}
 use Rattle.keeping.specs.Range.{Area, area}
 use Rattle.history.specs.Calls.{rebuildOf}
-use Rattle.keeping.proofs.Facts.{shape-is, kept-is}
+use Rattle.keeping.proofs.Facts.{shape-is, kept-is, lying-is}
 use borrow.Author.Needs.{needs}
 use Rattle.history.proofs.history_rebuild.Statement.{statement}
 use Rattle.history.proofs.history_rebuild.Tie as tie
@@ -26,7 +26,7 @@ rebuild-requires c κs =
     let s = e .before .before .before .before .before in
     let k = kept-is (A s) (s .args .steps .now) (s .args .levels .now) (length (s .args .index .now)) (same-number (e .before .before .judge-kept .ensures) (e .if1 .left)) in
     let h = shape-is (A s) (k .shape) in
-    ((k .most, k .steps), (h .width4, le-trans (h .widthMost) (h .strideMost), h .rowsMost, k .cells))
+    ((k .most, k .steps, lying-is k), (le-trans (h .widthMost) (h .strideMost), h .rowsMost, k .cells))
 
 same-length : tie.Need-same-length
 same-length c = search needs

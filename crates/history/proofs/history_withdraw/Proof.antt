@@ -1,21 +1,18 @@
-use mathlib.Core.Path.{_≡_, sym, ap, _∙_}
-use Prim.Native.Nat.{_-_, _≤_}
+-- `history::history_withdraw` meets its contract: the judge, then the step with the number is taken out. Assumes nothing.
+use mathlib.Core.Path.{_≡_, refl, sym, ap, _∙_, subst}
+use mathlib.Core.Bool.{true}
+use Prim.Native.Nat.{ℕ, _-_, _<_}
 use native.Mathlib.Omega.{arith}
+use lib.Dec.{eqb}
 use lib.ListN.{length}
-use Rattle.answers.specs.declared.Answer.{Answer}
-use Rattle.answers.specs.Answers.{done, refused, unless, ends}
-use Rattle.answers.proofs.Endings.{same-number, ends-refused}
-use Rattle.answers.proofs.Verdicts.{opens, stops}
-use borrow.Author.Tests.{le-ltb, lt-ltb}
-use lib.Dec.{ltb, eqb}
+use Rattle.answers.proofs.Endings.{same-number, ends-refused, ends-done}
 use Rattle.remain.specs.Remaining.{count, numberAt, found, entryAt}
 use Rattle.remain.specs.Touch.{free}
 use Rattle.remain.proofs.Finds.{last-most}
-use Rattle.keeping.specs.Range.{Area, area, kept}
-use Rattle.history.specs.Calls.{Lent, lent, andThen, undoing, takenOut, spotOf, withdrawOf}
+use Rattle.keeping.specs.Range.{Area, area}
 use Rattle.keeping.specs.Bounds.{Keeping}
-use Rattle.keeping.proofs.Facts.{kept-is}
-use Rattle.keeping.proofs.Verdicts.{kept-stops, kept-opens}
+use Rattle.history.specs.Calls.{Lent, lent, undoing, takenOut, spotOf, withdrawOf}
+use Rattle.history.proofs.Taking.{withdraw-passed, undoable-is, writable-is}
 use borrow.Author.Needs.{needs}
 use Rattle.history.proofs.history_withdraw.Statement.{statement}
 use Rattle.history.proofs.history_withdraw.Tie as tie
@@ -23,23 +20,24 @@ use Rattle.history.proofs.history_withdraw.Tie as tie
 abbrev A : tie.Start → Area
 A s = area (length (s .args .plane .now)) (s .args .stride) (s .args .width) (s .args .rows)
 
-abbrev entry : tie.Start → Lent
-entry s = lent (s .args .plane .now) (s .args .steps .now) (s .args .levels .now) (s .args .index .now)
+abbrev M : tie.Start → Lent
+M s = lent (s .args .plane .now) (s .args .steps .now) (s .args .levels .now) (s .args .index .now)
 
-passes-it : (c : tie.Else1) → let s = c .before .before .before .before .before .before .before in kept (A s) (s .args .steps .now) (s .args .levels .now) (length (s .args .index .now)) done .number ≡ 0
-passes-it c = same-number (c .before .before .judge-kept .ensures) (c .if1 .left)
+abbrev Found : tie.Start → ℕ
+Found s = found (s .args .steps .now) (s .args .number) (count (s .args .steps .now))
 
-keeps : (c : tie.Else1) → let s = c .before .before .before .before .before .before .before in Keeping (A s) (s .args .steps .now) (s .args .levels .now) (length (s .args .index .now))
-keeps c = let s = c .before .before .before .before .before .before .before in kept-is (A s) (s .args .steps .now) (s .args .levels .now) (length (s .args .index .now)) (passes-it c)
+-- what the verdict tells where it is Done
+passed-is : (c : tie.Else1) → let s = c .before .before .before .before .before .before .before .before .before in
+    Keeping (A s) (s .args .steps .now) (s .args .levels .now) (length (s .args .index .now)) × (0 < Found s)
+    × (undoing (s .args .stride) (s .args .plane .now) (entryAt (s .args .steps .now) (s .args .levels .now) (Found s - 1)) .number ≡ 0)
+    × (free (s .args .steps .now) (Found s - 1) ≡ true)
+passed-is c = let s = c .before .before .before .before .before .before .before .before .before in withdraw-passed (A s) (M s) (s .args .number) (same-number (c .before .before .history-can-withdraw .ensures) (c .if1 .left))
 
-found-is : (c : tie.After-found) → let s = c .before .before .before .before .before .before .before .before .before .before .before in c .found .result ≡ found (s .args .steps .now) (s .args .number) (count (s .args .steps .now))
-found-is c = let s = c .before .before .before .before .before .before .before .before .before .before .before in c .found .ensures ∙ ap (found (s .args .steps .now) (s .args .number)) (c .before .before .word .ensures)
+found-is : (c : tie.After-found) → c .found .result ≡ Found (c .before .before .before .before .before .before .before .before .before .before .before .before .before)
+found-is c = let s = c .before .before .before .before .before .before .before .before .before .before .before .before .before in c .found .ensures ∙ ap (found (s .args .steps .now) (s .args .number)) (c .before .before .word .ensures)
 
-below : (c : tie.After-found) → let s = c .before .before .before .before .before .before .before .before .before .before .before in c .found .result ≤ count (s .args .steps .now)
-below c = let s = c .before .before .before .before .before .before .before .before .before .before .before in omega (arith, found-is c, last-most (λ i. eqb (numberAt (s .args .steps .now) i) (s .args .number)) (count (s .args .steps .now)))
-
-judge-kept-requires : tie.Need-judge-kept-requires
-judge-kept-requires c κs = search needs
+history-can-withdraw-requires : tie.Need-history-can-withdraw-requires
+history-can-withdraw-requires c κs = search needs
 
 same-length : tie.Need-same-length
 same-length c = search needs
@@ -47,53 +45,37 @@ same-length c = search needs
 same-length-2 : tie.Need-same-length-2
 same-length-2 c = search needs
 
-returns : tie.Need-returns
-unfolding withdrawOf
-returns c =
-    let d = c .before .before in
-    let s = d .before .before .before .before .before in
-    ends-refused (d .judge-kept .ensures) (entry s) (takenOut (A s) (spotOf (s .args .steps .now) (s .args .number)) (entry s)) (c .if1 .taken)
-    ∙ ap (λ v. ends v (entry s) (takenOut (A s) (spotOf (s .args .steps .now) (s .args .number)) (entry s))) (sym (kept-stops (A s) (s .args .steps .now) (s .args .levels .now) (length (s .args .index .now)) (unless (ltb 0 (found (s .args .steps .now) (s .args .number) (count (s .args .steps .now)))) (refused 13 0 (s .args .number)) (andThen (undoing (A s) (s .args .plane .now) (entryAt (s .args .steps .now) (s .args .levels .now) (spotOf (s .args .steps .now) (s .args .number)))) (unless (free (s .args .steps .now) (spotOf (s .args .steps .now) (s .args .number))) (refused 13 0 (s .args .number)) done))) (λ q. c .if1 .taken (ap (λ (x : Answer). x .number) (d .judge-kept .ensures) ∙ q))))
-
-word-requires : tie.Need-word-requires
-word-requires c κs = omega (arith, keeps (c .before) .steps)
-
-found-requires : tie.Need-found-requires
-found-requires c κs = let k = keeps (c .before .before .before) in (omega (arith, c .before .word .ensures, k .most), k .steps)
-
-refusal-requires : tie.Need-refusal-requires
-refusal-requires c κs = search needs
-
 same-length-3 : tie.Need-same-length-3
 same-length-3 c = search needs
 
 same-length-4 : tie.Need-same-length-4
 same-length-4 c = search needs
 
-returns-2 : tie.Need-returns-2
+returns : tie.Need-returns
 unfolding withdrawOf
-returns-2 c =
-    let w = c .before .before in
-    let e = w .before .before .before .before in
-    let s = e .before .before .before .before .before .before .before in
-    let v = c .refusal .ensures ∙ sym (kept-opens (A s) (s .args .steps .now) (s .args .levels .now) (length (s .args .index .now)) (unless (ltb 0 (found (s .args .steps .now) (s .args .number) (count (s .args .steps .now)))) (refused 13 0 (s .args .number)) (andThen (undoing (A s) (s .args .plane .now) (entryAt (s .args .steps .now) (s .args .levels .now) (spotOf (s .args .steps .now) (s .args .number)))) (unless (free (s .args .steps .now) (spotOf (s .args .steps .now) (s .args .number))) (refused 13 0 (s .args .number)) done))) (passes-it e) ∙ stops (refused 13 0 (s .args .number)) (andThen (undoing (A s) (s .args .plane .now) (entryAt (s .args .steps .now) (s .args .levels .now) (spotOf (s .args .steps .now) (s .args .number)))) (unless (free (s .args .steps .now) (spotOf (s .args .steps .now) (s .args .number))) (refused 13 0 (s .args .number)) done)) (le-ltb 0 (found (s .args .steps .now) (s .args .number) (count (s .args .steps .now))) (omega (arith, found-is w, c .before .if2 .taken)))) in
-    ends-refused v (entry s) (takenOut (A s) (spotOf (s .args .steps .now) (s .args .number)) (entry s)) (λ q. absurd (omega (arith, ap (λ (x : Answer). x .number) (c .refusal .ensures))))
+returns c =
+    let s = c .before .before .before .before .before .before .before .before .before in
+    ends-refused (c .before .before .history-can-withdraw .ensures) (M s) (takenOut (A s) (spotOf (s .args .steps .now) (s .args .number)) (M s)) (c .if1 .taken)
+
+word-requires : tie.Need-word-requires
+word-requires c κs = omega (arith, passed-is (c .before) .0 .steps)
+
+found-requires : tie.Need-found-requires
+found-requires c κs = let k = passed-is (c .before .before .before) .0 in (omega (arith, c .before .word .ensures, k .most), k .steps)
 
 sub-take-out : tie.Need-sub-take-out
-sub-take-out c = search needs
-
-sub-overlapped : tie.Need-sub-overlapped
-sub-overlapped c = search needs
-
-overlapped-requires : tie.Need-overlapped-requires
-overlapped-requires c κs =
-    let w = c .before .before .before in
-    let s = w .before .before .before .before .before .before .before .before .before .before .before in
-    let k = keeps (w .before .before .before .before) in
-    (omega (arith, below w, k .most, c .before .before .if2 .left), k .most, k .steps)
+sub-take-out c = omega (arith, found-is (c .before), passed-is (c .before .before .before .before .before) .1)
 
 take-out-requires : tie.Need-take-out-requires
-take-out-requires c κs = let w = c .before .before .before .before .before .before .before in (keeps (w .before .before .before .before), omega (arith, below w, c .before .before .before .before .before .before .if2 .left))
+take-out-requires c κs =
+    let s = c .before .before .before .before .before .before .before .before .before .before .before .before .before .before .before .before .before in
+    let t = passed-is (c .before .before .before .before .before .before .before .before) in
+    let n = found-is (c .before .before .before .before) in
+    let i = c .before .before .before .before .found .result - 1 in
+    let h : i < count (s .args .steps .now) =
+    omega (arith, n, t .1, last-most (λ k. eqb (numberAt (s .args .steps .now) k) (s .args .number)) (count (s .args .steps .now))) in
+    ((undoable-is (t .0) i h (s .args .plane .now) refl, writable-is (t .0) i h (s .args .index .now) refl),
+      (h, subst (λ (k : ℕ). undoing (s .args .stride) (s .args .plane .now) (entryAt (s .args .steps .now) (s .args .levels .now) (k - 1)) .number ≡ 0) (sym n) (t .2)))
 
 same-length-5 : tie.Need-same-length-5
 same-length-5 c = search needs
@@ -107,39 +89,29 @@ same-length-7 c = search needs
 same-length-8 : tie.Need-same-length-8
 same-length-8 c = search needs
 
-returns-3 : tie.Need-returns-3
+returns-2 : tie.Need-returns-2
 unfolding withdrawOf
-returns-3 c =
-    let w = c .before .before .before .before .before .before .before .before .before .before .before .before .before .before in
-    let e = w .before .before .before .before in
-    let s = e .before .before .before .before .before .before .before in
-    let n = found-is w in
-    c .before .before .before .before .before .before .take-out .ensures
-    ∙ ap (λ r. ends (andThen (undoing (A s) (s .args .plane .now) (entryAt (s .args .steps .now) (s .args .levels .now) (w .found .result - 1))) r) (entry s) (takenOut (A s) (w .found .result - 1) (entry s))) (c .before .before .before .before .before .before .before .before .before .before .overlapped .ensures)
-    ∙ (λ i. ends (andThen (undoing (A s) (s .args .plane .now) (entryAt (s .args .steps .now) (s .args .levels .now) (n i - 1))) (unless (free (s .args .steps .now) (n i - 1)) (refused 13 0 (s .args .number)) done)) (entry s) (takenOut (A s) (n i - 1) (entry s)))
-    ∙ ap (λ v. ends v (entry s) (takenOut (A s) (spotOf (s .args .steps .now) (s .args .number)) (entry s)))
-      (sym (kept-opens (A s) (s .args .steps .now) (s .args .levels .now) (length (s .args .index .now)) (unless (ltb 0 (found (s .args .steps .now) (s .args .number) (count (s .args .steps .now)))) (refused 13 0 (s .args .number)) (andThen (undoing (A s) (s .args .plane .now) (entryAt (s .args .steps .now) (s .args .levels .now) (spotOf (s .args .steps .now) (s .args .number)))) (unless (free (s .args .steps .now) (spotOf (s .args .steps .now) (s .args .number))) (refused 13 0 (s .args .number)) done))) (passes-it e) ∙ opens (refused 13 0 (s .args .number)) (andThen (undoing (A s) (s .args .plane .now) (entryAt (s .args .steps .now) (s .args .levels .now) (spotOf (s .args .steps .now) (s .args .number)))) (unless (free (s .args .steps .now) (spotOf (s .args .steps .now) (s .args .number))) (refused 13 0 (s .args .number)) done)) (lt-ltb 0 (found (s .args .steps .now) (s .args .number) (count (s .args .steps .now))) (omega (arith, n, c .before .before .before .before .before .before .before .before .before .before .before .before .before .if2 .left)))))
+returns-2 c =
+    let s = c .before .before .before .before .before .before .before .before .before .before .before .before .before .before .before .before .before .before .before .before .before .before .before .before in
+    ends-done (c .before .before .before .before .before .before .before .before .before .before .before .before .before .before .before .before .before .history-can-withdraw .ensures) (M s) (c .before .before .before .before .before .before .before .before .before .before .before .before .before .before .before .if1 .left)
+    (c .before .before .before .before .before .before .take-out .ensures ∙ ap (λ k. takenOut (A s) (k - 1) (M s)) (found-is (c .before .before .before .before .before .before .before .before .before .before .before)))
 
 pub history-withdraw-spec : {M : Type 1} → statement M
 history-withdraw-spec =
     tie.close
     (tie.spec
-    judge-kept-requires
+    history-can-withdraw-requires
     same-length
     same-length-2
+    same-length-3
+    same-length-4
     returns
     word-requires
     found-requires
-    refusal-requires
-    same-length-3
-    same-length-4
-    returns-2
     sub-take-out
-    sub-overlapped
-    overlapped-requires
     take-out-requires
     same-length-5
     same-length-6
     same-length-7
     same-length-8
-    returns-3)
+    returns-2)

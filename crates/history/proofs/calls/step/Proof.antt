@@ -63,7 +63,7 @@ module _ (c : tie.Else1) where
   roomy =
       let s = c .before .before .before .before .before .before .before .before .before .before .before .before in
       let n = count (s .args .s .now) in
-      let b = both (ltb n 4096) (ltb (numberBefore (s .args .s .now) n) 4294967295) (passed (room (s .args .s .now)) 13 0 done (parts .1) .0) in
+      let b = both (ltb n 4096) (ltb (numberBefore (s .args .s .now) n) 4294967295) (passed (room (s .args .s .now)) 13 0 0 done (parts .1) .0) in
       (ltb-true n 4096 (b .0), ltb-true (numberBefore (s .args .s .now) n) 4294967295 (b .1))
 
   addable : let s = c .before .before .before .before .before .before .before .before .before .before .before .before in Addable (s .args .plane .now) (s .args .row * s .args .stride + s .args .column) (s .args .stride) (c .before .before .before .before .before .before .before .before .changes .last .1 .1 .0) × (4 ≤ s .args .stride)
