@@ -36,7 +36,7 @@ module _ (a : Area) (m : Lent) (right-index : m .index ≡ indexOf (a .width) (a
   index-taken-out i h right low fit =
       ap (mended (across (a .width)) (marks (stepsWithout i (m .steps)) (count (m .steps) - 1)) (word (m .steps) i 2) (word (m .steps) i 3)) right-index
       ∙ mended-index (a .width) (a .rows) (word (m .steps) i 2) (word (m .steps) i 3) right low (marks (m .steps) (count (m .steps))) (marks (stepsWithout i (m .steps)) (count (m .steps) - 1))
-        (λ y x q. touch-without (m .steps) i h fit (y * 4) (x * 4) q)
+      (λ y x q. touch-without (m .steps) i h fit (y * 4) (x * 4) q)
 
 pub count-stepped : (d r c : ℕ) (s : List ℕ) → 0 < length s → count (addedTo d r c s) ≡ count s + 1
 count-stepped d r c s h = getD-set-same (putMark (count s) (mark (numberBefore s (count s) + 1) d r c) s) 0 (count s + 1) 0 (simp length-set h)

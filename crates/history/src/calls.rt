@@ -13,10 +13,10 @@ ghost use Rattle.remain.specs.Without.{stepsWithout, levelsWithout};
 ghost use Rattle.keeping.specs.Range.{area, frontOf};
 ghost use Rattle.history.specs.Calls.{lent, room, andThen, undoing, stepSamples, stepped, takenOut, losses as Calls·losses};
 ghost use Rattle.history.specs.Bounds.{Writable, Undoable};
+use answers::Answer;
 use remain::cells;
 use remain::list;
 use remain::words;
-use answers::Answer;
 
 // Refusal 14 where there is no room for another step.
 fn full(s: &[u32]) -> Answer
@@ -95,8 +95,8 @@ pub fn step(
     requires { ⌜ frontOf (area (length (now plane)) stride width rows) depth row column (now level) (now s) (now l) (length (now index)) .number ≡ 0 ⌝ }
     ensures { λ r. ⌜ (r, lent (now (plane .exit)) (now (s .exit)) (now (l .exit)) (now (index .exit)))
         ≡ ends (stepSamples (area (length (now (plane .entry))) stride width rows) depth row column (now (level .entry)) (lent (now (plane .entry)) (now (s .entry)) (now (l .entry)) (now (index .entry))))
-            (lent (now (plane .entry)) (now (s .entry)) (now (l .entry)) (now (index .entry)))
-            (stepped (area (length (now (plane .entry))) stride width rows) depth row column (now (level .entry)) (lent (now (plane .entry)) (now (s .entry)) (now (l .entry)) (now (index .entry)))) ⌝ }
+        (lent (now (plane .entry)) (now (s .entry)) (now (l .entry)) (now (index .entry)))
+        (stepped (area (length (now (plane .entry))) stride width rows) depth row column (now (level .entry)) (lent (now (plane .entry)) (now (s .entry)) (now (l .entry)) (now (index .entry)))) ⌝ }
 {
     let start = row * stride + column;
     let mut gains = [0i32; 16];
@@ -111,14 +111,7 @@ pub fn step(
 }
 
 // Step i is taken out of the list, and its cells computed anew.
-fn drop_step(
-    width: usize,
-    rows: usize,
-    i: usize,
-    s: &mut [u32],
-    l: &mut [i32],
-    index: &mut [u32],
-)
+fn drop_step(width: usize, rows: usize, i: usize, s: &mut [u32], l: &mut [i32], index: &mut [u32])
     requires { ⌜ Writable width rows (word (now s) i 2) (word (now s) i 3) (now s) (now l) (now index) × (i < count (now s)) ⌝ }
     ensures { λ _. ⌜ (now (s .exit) ≡ stepsWithout i (now (s .entry))) × (now (l .exit) ≡ levelsWithout i (count (now (s .entry))) (now (l .entry)))
         × (now (index .exit) ≡ mended (across width) (marks (stepsWithout i (now (s .entry))) (count (now (s .entry)) - 1)) (word (now (s .entry)) i 2) (word (now (s .entry)) i 3) (now (index .entry))) ⌝ }

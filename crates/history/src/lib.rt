@@ -73,15 +73,7 @@ fn judge_undo(
 ) -> Answer
     ensures { λ r. ⌜ r ≡ undoVerdict (area (length (now (plane .entry))) stride width rows) (lent (now (plane .entry)) (now (steps .entry)) (now (levels .entry)) (now (index .entry))) ⌝ }
 {
-    let a = front::judge_kept(
-        plane.len(),
-        stride,
-        width,
-        rows,
-        steps,
-        levels,
-        index.len(),
-    );
+    let a = front::judge_kept(plane.len(), stride, width, rows, steps, levels, index.len());
     if a.number != 0 {
         return a;
     }
@@ -127,15 +119,7 @@ pub fn history_can_withdraw(
 ) -> Answer
     ensures { λ r. ⌜ r ≡ withdrawVerdict (area (length (now (plane .entry))) stride width rows) number (lent (now (plane .entry)) (now (steps .entry)) (now (levels .entry)) (now (index .entry))) ⌝ }
 {
-    let a = front::judge_kept(
-        plane.len(),
-        stride,
-        width,
-        rows,
-        steps,
-        levels,
-        index.len(),
-    );
+    let a = front::judge_kept(plane.len(), stride, width, rows, steps, levels, index.len());
     if a.number != 0 {
         return a;
     }
@@ -188,15 +172,7 @@ pub fn history_rebuild(
 ) -> Answer
     ensures { λ r. ⌜ (r, now (index .exit)) ≡ rebuildOf (area (length (now (plane .entry))) stride width rows) (now (steps .entry)) (now (levels .entry)) (now (index .entry)) ⌝ }
 {
-    let a = front::judge_kept(
-        plane.len(),
-        stride,
-        width,
-        rows,
-        steps,
-        levels,
-        index.len(),
-    );
+    let a = front::judge_kept(plane.len(), stride, width, rows, steps, levels, index.len());
     if a.number != 0 {
         return a;
     }

@@ -9,10 +9,10 @@ ghost use Rattle.answers.specs.Answers.{done};
 ghost use Rattle.remain.specs.Remaining.{count};
 ghost use Rattle.keeping.specs.Range.{area, markOk, entryOk, kept, frontOf};
 ghost use Rattle.keeping.specs.Range.{shaped as Range·shaped, stands as Range·stands, sound as Range·sound};
-use remain::words::number_before;
-use remain::words::word;
 use answers::Answer;
 use lossless::front::between;
+use remain::words::number_before;
+use remain::words::word;
 
 // Whether there can be such a stride, visible width and count of visible rows.
 pub fn shaped(stride: usize, width: usize, rows: usize) -> bool
@@ -22,14 +22,7 @@ pub fn shaped(stride: usize, width: usize, rows: usize) -> bool
 }
 
 // Whether a block lies in the visible area and in a plane of n samples.
-pub fn stands(
-    n: usize,
-    stride: usize,
-    width: usize,
-    rows: usize,
-    row: usize,
-    column: usize,
-) -> bool
+pub fn stands(n: usize, stride: usize, width: usize, rows: usize, row: usize, column: usize) -> bool
     requires { ⌜ Range·shaped (area n stride width rows) ≡ true ⌝ }
     ensures { λ r. ⌜ r ≡ Range·stands (area n stride width rows) row column ⌝ }
 {
@@ -48,14 +41,7 @@ fn mark_ok(n: usize, stride: usize, width: usize, rows: usize, s: &[u32], i: usi
     if !between(word(s, b + 1), 8, 12) {
         return false;
     }
-    if !stands(
-        n,
-        stride,
-        width,
-        rows,
-        word(s, b + 2),
-        word(s, b + 3),
-    ) {
+    if !stands(n, stride, width, rows, word(s, b + 2), word(s, b + 3)) {
         return false;
     }
     number_before(s, i) < s[b]

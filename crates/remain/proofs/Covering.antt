@@ -30,6 +30,6 @@ module _ {s : List ℕ} {width rows n : ℕ} where
             e ∙ ap (λ ms. mended (across width) ms (word s i 2) (word s i 3) x) (ap (marks s) (add-one i))
             ∙ ap (mended (across width) (marks s (suc i)) (word s i 2) (word s i 3)) (p .is)
             ∙ mended-index width rows (word s i 2) (word s i 3) right low (marks s i) (marks s (suc i))
-              (λ a b q. ap (λ t. cond t (numberAt s i) (lastTouch (a * 4) (b * 4) (marks s i))) q)
+            (λ a b q. ap (λ t. cond t (numberAt s i) (lastTouch (a * 4) (b * 4) (marks s i))) q)
             ∙ sym (ap (λ m. indexOf width rows (marks s m)) (add-one i));
       }

@@ -35,8 +35,7 @@ no-right true e = e
 no-right false e = refl
 
 module _ (width rows r c : ℕ) (right : c + 4 ≤ width) (low : r + 4 ≤ rows) (ms ms′ : List Mark)
-  (same : (y x : ℕ) → shares (y * 4) (x * 4) r c ≡ false → lastTouch (y * 4) (x * 4) ms′ ≡ lastTouch (y * 4) (x * 4) ms) where
-
+    (same : (y x : ℕ) → shares (y * 4) (x * 4) r c ≡ false → lastTouch (y * 4) (x * 4) ms′ ≡ lastTouch (y * 4) (x * 4) ms) where
   abbrev new : ℕ → ℕ
   new i = lastTouch (i / across width * 4) (i % across width * 4) ms′
 

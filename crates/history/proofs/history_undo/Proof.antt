@@ -58,9 +58,10 @@ take-out-requires c κs =
     let t = passed-is (c .before .before .before .before .before .before) in
     let n = c .before .before .before .before .word .ensures in
     let i = c .before .before .before .before .word .result - 1 in
-    let h : i < count (s .args .steps .now) = omega (arith, n, t .1) in
-    ((undoable-is (t .0) i h (s .args .plane .now) refl, writable-is (t .0) i h (s .args .index .now) refl),
-      (h, subst (λ (k : ℕ). undoing (s .args .stride) (s .args .plane .now) (entryAt (s .args .steps .now) (s .args .levels .now) (k - 1)) .number ≡ 0) (sym n) (t .2)))
+    let h : i < count (s .args .steps .now) = omega (arith, n, t .1) in (
+      (undoable-is (t .0) i h (s .args .plane .now) refl, writable-is (t .0) i h (s .args .index .now) refl),
+      (h, subst (λ (k : ℕ). undoing (s .args .stride) (s .args .plane .now) (entryAt (s .args .steps .now) (s .args .levels .now) (k - 1)) .number ≡ 0) (sym n) (t .2)),
+    )
 
 same-length-5 : tie.Need-same-length-5
 same-length-5 c = search needs

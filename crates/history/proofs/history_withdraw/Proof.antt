@@ -73,9 +73,10 @@ take-out-requires c κs =
     let n = found-is (c .before .before .before .before) in
     let i = c .before .before .before .before .found .result - 1 in
     let h : i < count (s .args .steps .now) =
-    omega (arith, n, t .1, last-most (λ k. eqb (numberAt (s .args .steps .now) k) (s .args .number)) (count (s .args .steps .now))) in
-    ((undoable-is (t .0) i h (s .args .plane .now) refl, writable-is (t .0) i h (s .args .index .now) refl),
-      (h, subst (λ (k : ℕ). undoing (s .args .stride) (s .args .plane .now) (entryAt (s .args .steps .now) (s .args .levels .now) (k - 1)) .number ≡ 0) (sym n) (t .2)))
+    omega (arith, n, t .1, last-most (λ k. eqb (numberAt (s .args .steps .now) k) (s .args .number)) (count (s .args .steps .now))) in (
+      (undoable-is (t .0) i h (s .args .plane .now) refl, writable-is (t .0) i h (s .args .index .now) refl),
+      (h, subst (λ (k : ℕ). undoing (s .args .stride) (s .args .plane .now) (entryAt (s .args .steps .now) (s .args .levels .now) (k - 1)) .number ≡ 0) (sym n) (t .2)),
+    )
 
 same-length-5 : tie.Need-same-length-5
 same-length-5 c = search needs

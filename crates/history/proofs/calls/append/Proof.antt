@@ -63,10 +63,11 @@ returns : tie.Need-returns
 returns c =
     let s = c .before .before .before .before .before .before .before .before .before .before .before .before .before .before .before .before .before .before in
     let n = c .before .before .before .before .before .before .before .before .before .before .before .before .before .before .word .ensures in
-    let e = steps-are (c .before .before .before .before .before .before .before .before .before .before) in
-    (e,
+    let e = steps-are (c .before .before .before .before .before .before .before .before .before .before) in (
+      e,
       c .before .before .before .before .before .before .put-levels .ensures ∙ ap (λ i. putOn (16 * i) (s .args .level .now) 16 (s .args .l .now)) n,
-      c .before .before .mend .ensures ∙ (λ i. mended (across (s .args .width)) (marks (e i) (n i + 1)) (s .args .row) (s .args .column) (s .args .index .now)))
+      c .before .before .mend .ensures ∙ (λ i. mended (across (s .args .width)) (marks (e i) (n i + 1)) (s .args .row) (s .args .column) (s .args .index .now)),
+    )
 
 pub append-spec : {M : Type 1} → statement M
 append-spec =

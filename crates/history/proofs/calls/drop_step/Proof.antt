@@ -50,10 +50,12 @@ returns : tie.Need-returns
 returns c =
     let s = c .before .before .before .before .before .before .before .before .before .before .before .before .before .before .before .before .before .before .before in
     let n = c .before .before .before .before .before .before .before .before .before .before .before .before .before .before .before .word .ensures in
-    let e = c .before .before .before .before .before .before .before .before .remove .ensures in
-    (e .0, e .1 ∙ ap (λ m. levelsWithout (s .args .i) m (s .args .l .now)) n,
+    let e = c .before .before .before .before .before .before .before .before .remove .ensures in (
+      e .0,
+      e .1 ∙ ap (λ m. levelsWithout (s .args .i) m (s .args .l .now)) n,
       c .before .before .mend .ensures
-      ∙ (λ i. mended (across (s .args .width)) (marks (e .0 i) (n i - 1)) (c .before .before .before .before .before .before .before .before .before .before .before .before .before .word2 .ensures i) (c .before .before .before .before .before .before .before .before .before .before .before .word3 .ensures i) (s .args .index .now)))
+          ∙ (λ i. mended (across (s .args .width)) (marks (e .0 i) (n i - 1)) (c .before .before .before .before .before .before .before .before .before .before .before .before .before .word2 .ensures i) (c .before .before .before .before .before .before .before .before .before .before .before .word3 .ensures i) (s .args .index .now)),
+    )
 
 pub drop-step-spec : {M : Type 1} → statement M
 drop-step-spec =

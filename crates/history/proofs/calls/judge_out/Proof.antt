@@ -42,10 +42,11 @@ slice-aggregate-judge c = search needs
 
 judge-requires : tie.Need-judge-requires
 judge-requires c κs =
-    let s = c .before .before .before .before .before .before .before in
-    (subst (λ (k : ℕ). getD (s .args .s .now) k 0 ≤ 12) (sym (place-is (s .args .i))) (s .pre .deep),
+    let s = c .before .before .before .before .before .before .before in (
+      subst (λ (k : ℕ). getD (s .args .s .now) k 0 ≤ 12) (sym (place-is (s .args .i))) (s .pre .deep),
       omega (arith, c .before .before .before .before .before .start-of .ensures, s .pre .reach),
-      subst (Sixteen 1048576) (sym (c .before .before .losses .ensures)) (change-size true (s .pre .sixteen)))
+      subst (Sixteen 1048576) (sym (c .before .before .losses .ensures)) (change-size true (s .pre .sixteen)),
+    )
 
 returns : tie.Need-returns
 returns c =

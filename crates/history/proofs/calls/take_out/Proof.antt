@@ -36,12 +36,14 @@ add-requires c κs =
     let at = spots (s .args .stride) (word (s .args .s .now) (s .args .i) 2) (word (s .args .s .now) (s .args .i) 3) in
     let p = s .args .plane .now in
     let n = c .before .before .before .before .before .before .start-of .ensures in
-    let t = passes (sample d) at p (numbers (losses (levelsAt (s .args .l .now) (s .args .i)))) (s .pre .1 .1) in
-    (record {
-      reach = omega (arith, n, q .reach);
-      small = λ k h. subst (λ (z : ℕ). natAbs (numbers p (cellAt z (s .args .stride) 4 k)) ≤ 4095) (sym n) (sample-size d (numbers p (at k)) (q .deep) (t .present k h));
-      gains = subst (Sixteen 1048576) (sym (c .before .before .before .losses .ensures)) (change-size true (q .sixteen));
-    }, q .wide)
+    let t = passes (sample d) at p (numbers (losses (levelsAt (s .args .l .now) (s .args .i)))) (s .pre .1 .1) in (
+      record {
+        reach = omega (arith, n, q .reach);
+        small = λ k h. subst (λ (z : ℕ). natAbs (numbers p (cellAt z (s .args .stride) 4 k)) ≤ 4095) (sym n) (sample-size d (numbers p (at k)) (q .deep) (t .present k h));
+        gains = subst (Sixteen 1048576) (sym (c .before .before .before .losses .ensures)) (change-size true (q .sixteen));
+      },
+      q .wide,
+    )
 
 drop-step-requires : tie.Need-drop-step-requires
 drop-step-requires c κs = search needs
