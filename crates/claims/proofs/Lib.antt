@@ -8,6 +8,7 @@
 --     Chroma     pair by pair, and how far a pair drifts that is turned back
 --     Wht        each transform undoes the other, and the difference of two blocks leads from one to the other
 --     History    stepping back, and the wanted block
+--     Remaining  a history of remaining steps in lent memory
 --     Av1        the older edition: two definitions agree
 --     Recursion  the recursive DCT is the flat one
 --     Worked     P1 to P12
@@ -25,6 +26,7 @@ pub mod Orders
 pub mod Chroma
 pub mod Wht
 pub mod History
+pub mod Remaining
 pub mod Av1
 pub mod Recursion
 pub mod Worked

@@ -7,6 +7,10 @@ use Rattle.pixels.specs.Calls.{Reading, strict, strictRows, clamped, addOf, flo
 use Rattle.chroma.specs.Chroma.{cctxOf}
 use Rattle.wht.specs.Calls.{fwhtOf, iwhtOf}
 use Rattle.lossless.specs.Step.{attempt, stepOf, undoOf}
+use lib.ListN.{length}
+use Rattle.keeping.specs.Range.{area}
+use Rattle.history.specs.Calls as Remaining
+use Rattle.history.specs.Calls.{lent, withdrawVerdict, withdrawOf, rebuildOf}
 use Rattle.av1.specs.Calls.{dctOf}
 use Rattle.av1_wht.specs.Wht.{whtOf}
 use Rattle.pixels.proofs.inv_txfm_recon_f32.Kinds as Recon
@@ -14,6 +18,11 @@ use Rattle.pixels.proofs.inv_txfm_add.Kinds as Add
 use Rattle.chroma.proofs.cctx.Kinds as Cctx
 use Rattle.wht.proofs.fwht4x4.Kinds as Wht
 use Rattle.lossless.proofs.lossless_step.Kinds as Lossless
+use Rattle.history.proofs.history_step.Kinds as HistoryStep
+use Rattle.history.proofs.history_undo.Kinds as HistoryUndo
+use Rattle.history.proofs.history_withdraw.Kinds as HistoryWithdraw
+use Rattle.history.proofs.history_can_withdraw.Kinds as HistoryCan
+use Rattle.history.proofs.history_rebuild.Kinds as HistoryRebuild
 use Rattle.av1.proofs.av1_inv_dct.Kinds as Av1Dct
 use Rattle.av1_wht.proofs.av1_inv_wht4x4.Kinds as Av1Wht
 use Rattle.pixels.proofs.inv_txfm_recon_f32.Reads as inv_txfm_recon_f32
@@ -33,6 +42,11 @@ use Rattle.wht.proofs.fwht4x4.Reads as fwht4x4
 use Rattle.wht.proofs.iwht4x4.Reads as iwht4x4
 use Rattle.lossless.proofs.lossless_step.Reads as lossless_step
 use Rattle.lossless.proofs.lossless_undo.Reads as lossless_undo
+use Rattle.history.proofs.history_step.Reads as history_step
+use Rattle.history.proofs.history_undo.Reads as history_undo
+use Rattle.history.proofs.history_withdraw.Reads as history_withdraw
+use Rattle.history.proofs.history_can_withdraw.Reads as history_can_withdraw
+use Rattle.history.proofs.history_rebuild.Reads as history_rebuild
 use Rattle.av1.proofs.av1_inv_dct.Reads as av1_inv_dct
 use Rattle.av1_wht.proofs.av1_inv_wht4x4.Reads as av1_inv_wht4x4
 use Rattle.panel.proofs.panel_inv_txfm_recon_f32.Reads as panel_inv_txfm_recon_f32
@@ -52,6 +66,11 @@ use Rattle.panel.proofs.panel_fwht4x4.Reads as panel_fwht4x4
 use Rattle.panel.proofs.panel_iwht4x4.Reads as panel_iwht4x4
 use Rattle.panel.proofs.panel_lossless_step.Reads as panel_lossless_step
 use Rattle.panel.proofs.panel_lossless_undo.Reads as panel_lossless_undo
+use Rattle.panel.proofs.panel_history_step.Reads as panel_history_step
+use Rattle.panel.proofs.panel_history_undo.Reads as panel_history_undo
+use Rattle.panel.proofs.panel_history_withdraw.Reads as panel_history_withdraw
+use Rattle.panel.proofs.panel_history_can_withdraw.Reads as panel_history_can_withdraw
+use Rattle.panel.proofs.panel_history_rebuild.Reads as panel_history_rebuild
 use Rattle.panel.proofs.panel_av1_inv_dct.Reads as panel_av1_inv_dct
 use Rattle.panel.proofs.panel_av1_inv_wht4x4.Reads as panel_av1_inv_wht4x4
 use Rattle.claims.specs.Promises.{Promised}
@@ -189,6 +208,54 @@ lossless-undo-promised = (λ κs a. tt, λ κs a x left p. p)
 
 pub panel-lossless-undo-promised : Promised 2 Lossless.ps Lossless.r panel_lossless_undo.Asked panel_lossless_undo.Learnt undoing
 panel-lossless-undo-promised = (λ κs a. tt, λ κs a x left p. p)
+
+-- ---- histories: plane, stride, width, rows, and the lent memory: steps, levels, index
+abbrev remembering : Out 5 HistoryStep.ps HistoryStep.r
+remembering κs a x left =
+    (x, lent (left .1 .0 .now) (left .1 .1 .1 .1 .1 .1 .1 .1 .0 .now) (left .1 .1 .1 .1 .1 .1 .1 .1 .1 .0 .now) (left .1 .1 .1 .1 .1 .1 .1 .1 .1 .1 .0 .now))
+    ≡ Remaining.stepOf (area (length (a .1 .0 .now)) (a .1 .1 .0) (a .1 .1 .1 .0) (a .1 .1 .1 .1 .0)) (a .0) (a .1 .1 .1 .1 .1 .0) (a .1 .1 .1 .1 .1 .1 .0) (a .1 .1 .1 .1 .1 .1 .1 .0 .now) (lent (a .1 .0 .now) (a .1 .1 .1 .1 .1 .1 .1 .1 .0 .now) (a .1 .1 .1 .1 .1 .1 .1 .1 .1 .0 .now) (a .1 .1 .1 .1 .1 .1 .1 .1 .1 .1 .0 .now))
+
+pub history-step-promised : Promised 5 HistoryStep.ps HistoryStep.r history_step.Asked history_step.Learnt remembering
+history-step-promised = (λ κs a. tt, λ κs a x left p. p)
+
+pub panel-history-step-promised : Promised 5 HistoryStep.ps HistoryStep.r panel_history_step.Asked panel_history_step.Learnt remembering
+panel-history-step-promised = (λ κs a. tt, λ κs a x left p. p)
+
+abbrev undoingNewest : Out 4 HistoryUndo.ps HistoryUndo.r
+undoingNewest κs a x left = (x, lent (left .0 .now) (left .1 .1 .1 .1 .0 .now) (left .1 .1 .1 .1 .1 .0 .now) (left .1 .1 .1 .1 .1 .1 .0 .now)) ≡ Remaining.undoOf (area (length (a .0 .now)) (a .1 .0) (a .1 .1 .0) (a .1 .1 .1 .0)) (lent (a .0 .now) (a .1 .1 .1 .1 .0 .now) (a .1 .1 .1 .1 .1 .0 .now) (a .1 .1 .1 .1 .1 .1 .0 .now))
+
+pub history-undo-promised : Promised 4 HistoryUndo.ps HistoryUndo.r history_undo.Asked history_undo.Learnt undoingNewest
+history-undo-promised = (λ κs a. tt, λ κs a x left p. p)
+
+pub panel-history-undo-promised : Promised 4 HistoryUndo.ps HistoryUndo.r panel_history_undo.Asked panel_history_undo.Learnt undoingNewest
+panel-history-undo-promised = (λ κs a. tt, λ κs a x left p. p)
+
+abbrev withdrawing : Out 4 HistoryWithdraw.ps HistoryWithdraw.r
+withdrawing κs a x left = (x, lent (left .0 .now) (left .1 .1 .1 .1 .1 .0 .now) (left .1 .1 .1 .1 .1 .1 .0 .now) (left .1 .1 .1 .1 .1 .1 .1 .0 .now)) ≡ withdrawOf (area (length (a .0 .now)) (a .1 .0) (a .1 .1 .0) (a .1 .1 .1 .0)) (a .1 .1 .1 .1 .0) (lent (a .0 .now) (a .1 .1 .1 .1 .1 .0 .now) (a .1 .1 .1 .1 .1 .1 .0 .now) (a .1 .1 .1 .1 .1 .1 .1 .0 .now))
+
+pub history-withdraw-promised : Promised 4 HistoryWithdraw.ps HistoryWithdraw.r history_withdraw.Asked history_withdraw.Learnt withdrawing
+history-withdraw-promised = (λ κs a. tt, λ κs a x left p. p)
+
+pub panel-history-withdraw-promised : Promised 4 HistoryWithdraw.ps HistoryWithdraw.r panel_history_withdraw.Asked panel_history_withdraw.Learnt withdrawing
+panel-history-withdraw-promised = (λ κs a. tt, λ κs a x left p. p)
+
+abbrev asking : Out 4 HistoryCan.ps HistoryCan.r
+asking κs a x left = x ≡ withdrawVerdict (area (length (a .0 .now)) (a .1 .0) (a .1 .1 .0) (a .1 .1 .1 .0)) (a .1 .1 .1 .1 .0) (lent (a .0 .now) (a .1 .1 .1 .1 .1 .0 .now) (a .1 .1 .1 .1 .1 .1 .0 .now) (a .1 .1 .1 .1 .1 .1 .1 .0 .now))
+
+pub history-can-withdraw-promised : Promised 4 HistoryCan.ps HistoryCan.r history_can_withdraw.Asked history_can_withdraw.Learnt asking
+history-can-withdraw-promised = (λ κs a. tt, λ κs a x left p. p)
+
+pub panel-history-can-withdraw-promised : Promised 4 HistoryCan.ps HistoryCan.r panel_history_can_withdraw.Asked panel_history_can_withdraw.Learnt asking
+panel-history-can-withdraw-promised = (λ κs a. tt, λ κs a x left p. p)
+
+abbrev rebuilding : Out 4 HistoryRebuild.ps HistoryRebuild.r
+rebuilding κs a x left = (x, left .1 .1 .1 .1 .1 .1 .0 .now) ≡ rebuildOf (area (length (a .0 .now)) (a .1 .0) (a .1 .1 .0) (a .1 .1 .1 .0)) (a .1 .1 .1 .1 .0 .now) (a .1 .1 .1 .1 .1 .0 .now) (a .1 .1 .1 .1 .1 .1 .0 .now)
+
+pub history-rebuild-promised : Promised 4 HistoryRebuild.ps HistoryRebuild.r history_rebuild.Asked history_rebuild.Learnt rebuilding
+history-rebuild-promised = (λ κs a. tt, λ κs a x left p. p)
+
+pub panel-history-rebuild-promised : Promised 4 HistoryRebuild.ps HistoryRebuild.r panel_history_rebuild.Asked panel_history_rebuild.Learnt rebuilding
+panel-history-rebuild-promised = (λ κs a. tt, λ κs a x left p. p)
 
 -- ---- AV1: length, bits, list; bits, list
 abbrev dct : Out 1 Av1Dct.ps Av1Dct.r

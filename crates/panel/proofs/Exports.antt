@@ -10,6 +10,11 @@ use Rattle.pixels.proofs.inv_txfm_add.Kinds as Add
 use Rattle.chroma.proofs.cctx.Kinds as Cctx
 use Rattle.wht.proofs.fwht4x4.Kinds as Wht
 use Rattle.lossless.proofs.lossless_step.Kinds as Lossless
+use Rattle.history.proofs.history_step.Kinds as HistoryStep
+use Rattle.history.proofs.history_undo.Kinds as HistoryUndo
+use Rattle.history.proofs.history_withdraw.Kinds as HistoryWithdraw
+use Rattle.history.proofs.history_can_withdraw.Kinds as HistoryCan
+use Rattle.history.proofs.history_rebuild.Kinds as HistoryRebuild
 use Rattle.av1.proofs.av1_inv_dct.Kinds as Av1Dct
 use Rattle.av1_wht.proofs.av1_inv_wht4x4.Kinds as Av1Wht
 use Rattle.pixels.proofs.inv_txfm_recon_f32.Reads as inv_txfm_recon_f32
@@ -29,6 +34,11 @@ use Rattle.wht.proofs.fwht4x4.Reads as fwht4x4
 use Rattle.wht.proofs.iwht4x4.Reads as iwht4x4
 use Rattle.lossless.proofs.lossless_step.Reads as lossless_step
 use Rattle.lossless.proofs.lossless_undo.Reads as lossless_undo
+use Rattle.history.proofs.history_step.Reads as history_step
+use Rattle.history.proofs.history_undo.Reads as history_undo
+use Rattle.history.proofs.history_withdraw.Reads as history_withdraw
+use Rattle.history.proofs.history_can_withdraw.Reads as history_can_withdraw
+use Rattle.history.proofs.history_rebuild.Reads as history_rebuild
 use Rattle.av1.proofs.av1_inv_dct.Reads as av1_inv_dct
 use Rattle.av1_wht.proofs.av1_inv_wht4x4.Reads as av1_inv_wht4x4
 use Rattle.panel.proofs.panel_inv_txfm_recon_f32.Reads as panel_inv_txfm_recon_f32
@@ -48,6 +58,11 @@ use Rattle.panel.proofs.panel_fwht4x4.Reads as panel_fwht4x4
 use Rattle.panel.proofs.panel_iwht4x4.Reads as panel_iwht4x4
 use Rattle.panel.proofs.panel_lossless_step.Reads as panel_lossless_step
 use Rattle.panel.proofs.panel_lossless_undo.Reads as panel_lossless_undo
+use Rattle.panel.proofs.panel_history_step.Reads as panel_history_step
+use Rattle.panel.proofs.panel_history_undo.Reads as panel_history_undo
+use Rattle.panel.proofs.panel_history_withdraw.Reads as panel_history_withdraw
+use Rattle.panel.proofs.panel_history_can_withdraw.Reads as panel_history_can_withdraw
+use Rattle.panel.proofs.panel_history_rebuild.Reads as panel_history_rebuild
 use Rattle.panel.proofs.panel_av1_inv_dct.Reads as panel_av1_inv_dct
 use Rattle.panel.proofs.panel_av1_inv_wht4x4.Reads as panel_av1_inv_wht4x4
 
@@ -107,6 +122,21 @@ lossless-step-wrapped = (λ κs a. tt, λ κs a x left p. p)
 
 pub lossless-undo-wrapped : Wraps 2 Lossless.ps Lossless.r panel_lossless_undo.Asked panel_lossless_undo.Learnt lossless_undo.Learnt
 lossless-undo-wrapped = (λ κs a. tt, λ κs a x left p. p)
+
+pub history-step-wrapped : Wraps 5 HistoryStep.ps HistoryStep.r panel_history_step.Asked panel_history_step.Learnt history_step.Learnt
+history-step-wrapped = (λ κs a. tt, λ κs a x left p. p)
+
+pub history-undo-wrapped : Wraps 4 HistoryUndo.ps HistoryUndo.r panel_history_undo.Asked panel_history_undo.Learnt history_undo.Learnt
+history-undo-wrapped = (λ κs a. tt, λ κs a x left p. p)
+
+pub history-withdraw-wrapped : Wraps 4 HistoryWithdraw.ps HistoryWithdraw.r panel_history_withdraw.Asked panel_history_withdraw.Learnt history_withdraw.Learnt
+history-withdraw-wrapped = (λ κs a. tt, λ κs a x left p. p)
+
+pub history-can-withdraw-wrapped : Wraps 4 HistoryCan.ps HistoryCan.r panel_history_can_withdraw.Asked panel_history_can_withdraw.Learnt history_can_withdraw.Learnt
+history-can-withdraw-wrapped = (λ κs a. tt, λ κs a x left p. p)
+
+pub history-rebuild-wrapped : Wraps 4 HistoryRebuild.ps HistoryRebuild.r panel_history_rebuild.Asked panel_history_rebuild.Learnt history_rebuild.Learnt
+history-rebuild-wrapped = (λ κs a. tt, λ κs a x left p. p)
 
 pub av1-inv-dct-wrapped : Wraps 1 Av1Dct.ps Av1Dct.r panel_av1_inv_dct.Asked panel_av1_inv_dct.Learnt av1_inv_dct.Learnt
 av1-inv-dct-wrapped = (λ κs a. tt, λ κs a x left p. p)

@@ -5,6 +5,10 @@ ghost use Rattle.pixels.specs.Calls.{addOf, floatOf, Exact, strict, strictRows,
 ghost use Rattle.chroma.specs.Chroma.{cctxOf};
 ghost use Rattle.wht.specs.Calls.{fwhtOf, iwhtOf};
 ghost use Rattle.lossless.specs.Step.{attempt, stepOf, undoOf};
+ghost use lib.ListN.{length};
+ghost use Rattle.keeping.specs.Range.{area};
+ghost use Rattle.history.specs.Calls as Remaining;
+ghost use Rattle.history.specs.Calls.{lent, withdrawVerdict, withdrawOf, rebuildOf};
 ghost use Rattle.av1.specs.Calls.{dctOf};
 ghost use Rattle.av1_wht.specs.Wht.{whtOf};
 use answers::Answer;
@@ -249,6 +253,107 @@ pub extern "C" fn panel_lossless_undo(
     ensures { λ r. ⌜ (r, now (plane .exit)) ≡ undoOf (now (plane .entry)) (attempt depth stride width row column (now (level .entry))) ⌝ }
 {
     lossless::lossless_undo(depth, plane, stride, width, row, column, level)
+}
+
+// A lossless step, remembered in lent memory.
+#[no_mangle]
+pub extern "C" fn panel_history_step(
+    depth: u32,
+    plane: &mut [i32],
+    stride: usize,
+    width: usize,
+    rows: usize,
+    row: usize,
+    column: usize,
+    level: &[i32],
+    steps: &mut [u32],
+    levels: &mut [i32],
+    index: &mut [u32],
+) -> Answer
+    ensures { λ r. ⌜ (r, lent (now (plane .exit)) (now (steps .exit)) (now (levels .exit)) (now (index .exit)))
+        ≡ Remaining.stepOf (area (length (now (plane .entry))) stride width rows) depth row column (now (level .entry)) (lent (now (plane .entry)) (now (steps .entry)) (now (levels .entry)) (now (index .entry))) ⌝ }
+{
+    history::history_step(
+        depth,
+        plane,
+        stride,
+        width,
+        rows,
+        row,
+        column,
+        level,
+        steps,
+        levels,
+        index,
+    )
+}
+
+// The newest remaining step, undone.
+#[no_mangle]
+pub extern "C" fn panel_history_undo(
+    plane: &mut [i32],
+    stride: usize,
+    width: usize,
+    rows: usize,
+    steps: &mut [u32],
+    levels: &mut [i32],
+    index: &mut [u32],
+) -> Answer
+    ensures { λ r. ⌜ (r, lent (now (plane .exit)) (now (steps .exit)) (now (levels .exit)) (now (index .exit)))
+        ≡ Remaining.undoOf (area (length (now (plane .entry))) stride width rows) (lent (now (plane .entry)) (now (steps .entry)) (now (levels .entry)) (now (index .entry))) ⌝ }
+{
+    history::history_undo(plane, stride, width, rows, steps, levels, index)
+}
+
+// The remaining step with a number, undone.
+#[no_mangle]
+pub extern "C" fn panel_history_withdraw(
+    plane: &mut [i32],
+    stride: usize,
+    width: usize,
+    rows: usize,
+    number: u32,
+    steps: &mut [u32],
+    levels: &mut [i32],
+    index: &mut [u32],
+) -> Answer
+    ensures { λ r. ⌜ (r, lent (now (plane .exit)) (now (steps .exit)) (now (levels .exit)) (now (index .exit)))
+        ≡ withdrawOf (area (length (now (plane .entry))) stride width rows) number (lent (now (plane .entry)) (now (steps .entry)) (now (levels .entry)) (now (index .entry))) ⌝ }
+{
+    history::history_withdraw(plane, stride, width, rows, number, steps, levels, index)
+}
+
+// What a withdrawal would answer.
+#[no_mangle]
+pub extern "C" fn panel_history_can_withdraw(
+    plane: &[i32],
+    stride: usize,
+    width: usize,
+    rows: usize,
+    number: u32,
+    steps: &[u32],
+    levels: &[i32],
+    index: &[u32],
+) -> Answer
+    ensures { λ r. ⌜ r ≡ withdrawVerdict (area (length (now (plane .entry))) stride width rows) number (lent (now (plane .entry)) (now (steps .entry)) (now (levels .entry)) (now (index .entry))) ⌝ }
+{
+    history::history_can_withdraw(plane, stride, width, rows, number, steps, levels, index)
+}
+
+// The whole index, from the list.
+#[no_mangle]
+pub extern "C" fn panel_history_rebuild(
+    plane: &[i32],
+    stride: usize,
+    width: usize,
+    rows: usize,
+    steps: &[u32],
+    levels: &[i32],
+    index: &mut [u32],
+) -> Answer
+    ensures { λ r. ⌜ (r, now (index .exit)) ≡ rebuildOf (area (length (now (plane .entry))) stride width rows) (now (steps .entry)) (now (levels .entry)) (now (index .entry)) ⌝ }
+{
+    history::history_rebuild(plane, stride, width, rows, steps, levels, index)
 }
 
 // The inverse DCT of AV1, in its place.
