@@ -2,7 +2,7 @@
 --     length-most          a length that there is, is at most 64
 --     low-size, high-size  the ends of at most 20 bits
 --     Accepted, accepted   a verdict of Done before the first step: the bits, the lengths, and a bound on each number
-use mathlib.Core.Path.{_≡_, refl, sym, ap, _∙_, subst}
+use mathlib.Core.Path.{_≡_, refl, subst}
 use mathlib.Core.Bool.{Bool, true, false, _&&_, _||_}
 use mathlib.Core.List.{List}
 use Prim.Native.Nat.{ℕ, _-_, _^_, _≤_, _<_}
@@ -13,7 +13,6 @@ use lib.Dec.{eqb, leb}
 use lib.IntN.{ℤ, natAbs}
 use lib.ListN.{length}
 use lib.Pow.{pow-mono}
-use Rattle.whole.specs.Numbers.{inRange}
 use Rattle.whole.specs.Search.{seek}
 use Rattle.whole.specs.Sums.{Within}
 use Rattle.whole.proofs.Range.{in-range-size, lowest-size, highest-size}

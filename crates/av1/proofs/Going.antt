@@ -7,27 +7,27 @@
 use mathlib.Core.Path.{_≡_, refl, sym, ap, _∙_, subst}
 use mathlib.Core.Bool.{Bool, true, false, not, _&&_, cond}
 use mathlib.Core.List.{List}
-use Prim.Native.Nat.{ℕ, zero, suc, _+_, _*_, _-_, _^_, _≤_, _<_}
+use Prim.Native.Nat.{ℕ, suc, _+_, _*_, _-_, _^_, _≤_, _<_}
 use native.Mathlib.Nat as N
 use native.Mathlib.Numerals.{add-one}
 use native.Mathlib.Decide.{ℕ-discrete}
 use native.Mathlib.Omega.{arith}
-use borrow.Author.Tests.{eq-eqb, ne-eqb, eqb-true, eqb-false, ltb-true}
-use lib.Dec.{T, lit<, lit≤, eqb, ltb, ltb→lt}
+use borrow.Author.Tests.{eq-eqb, ne-eqb, eqb-false}
+use lib.Dec.{T, lit≤, eqb, ltb, ltb→lt}
 use lib.IntN.{ℤ, pos, natAbs, _+ℤ_, _-ℤ_, _*ℤ_}
 use lib.ListN.{length, getD, set, length-set}
 use lib.Seq.{getD-set-same, getD-set-other}
 use Rattle.answers.specs.declared.Answer.{Answer}
-use Rattle.answers.specs.Answers.{done, refused, unless, ends}
-use Rattle.answers.proofs.Verdicts.{passed, taken}
+use Rattle.answers.specs.Answers.{done, refused}
+use Rattle.answers.proofs.Verdicts.{passed}
 use Rattle.whole.specs.Numbers.{inRange}
 use Rattle.whole.specs.Sums.{Within}
 use Rattle.whole.proofs.Num.{Num, plus, minus, times}
 use Rattle.whole.proofs.Range.{in-range-size}
 use Rattle.whole.proofs.Sums.{within-all}
 use Rattle.whole.proofs.Tests.{and-left, and-right}
-use Rattle.av1.specs.Steps.{item, cosOf, sinOf, turnX, turnY, turnOf, sumsVerdict, sumsOf, stepOf, onward, goes}
-use Rattle.av1.specs.Room.{roomOf, marked, angleOf, legalStep, legal, Rests, StepRoom, Program, Cosines}
+use Rattle.av1.specs.Steps.{item, turnX, turnY, turnOf, sumsOf, stepOf, onward, goes}
+use Rattle.av1.specs.Room.{roomOf, marked, angleOf, legalStep, legal, Rests, StepRoom, Cosines}
 use Rattle.av1.proofs.Wide.{half, small-floor}
 
 -- ---- sizes

@@ -9,7 +9,7 @@
 --     stepOf                       a step, with the place of what it stores first
 --     onward w f                   what follows a step that was not refused
 --     goes                         m steps of a table, from number k on; p is the place of what is stored next
-use mathlib.Core.Bool.{Bool, cond}
+use mathlib.Core.Bool.{cond}
 use mathlib.Core.List.{List}
 use Prim.Native.Nat.{ℕ, zero, suc, _+_, _*_, _-_}
 use lib.Dec.{eqb, ltb}

@@ -1,12 +1,11 @@
 // Steps of the inverse DCT on a lent slice: sums and differences that are tested, turns by an angle, and the run of a table of such steps.
 ghost use mathlib.Core.Path.{_≡_};
 ghost use Prim.Native.Nat.{_+_, _*_, _^_, _≤_, _<_};
-ghost use lib.IntN.{ℤ, natAbs, _+ℤ_, _-ℤ_};
+ghost use lib.IntN.{natAbs};
 ghost use lib.ListN.{length};
 ghost use Rattle.whole.specs.Sums.{Within};
-ghost use Rattle.answers.specs.Answers.{refused};
-ghost use Rattle.av1.specs.Steps.{item, turnX, turnY, turnOf, sumsVerdict, sumsOf, stepOf, goes};
-ghost use Rattle.av1.specs.Room.{StepRoom, Program, Cosines, Rests};
+ghost use Rattle.av1.specs.Steps.{item, turnX, turnY, turnOf, sumsOf, stepOf, goes};
+ghost use Rattle.av1.specs.Room.{StepRoom, Program, Cosines};
 use answers::Answer;
 
 // The first number of the pair x, y turned by the angle of cosine c and sine s, both times 4096.

@@ -7,25 +7,24 @@
 use mathlib.Core.Path.{_≡_, refl, sym, ap, _∙_, subst}
 use mathlib.Core.Bool.{Bool, true, false, not, _&&_, cond}
 use mathlib.Core.List.{List, [], _∷_, _++_}
-use Prim.Native.Nat.{ℕ, zero, suc, _+_, _*_, _-_, _^_, _≤_, _<_}
+use Prim.Native.Nat.{ℕ, zero, suc, _+_, _*_, _-_, _^_, _<_}
 use native.Mathlib.Nat as N
 use native.Mathlib.Numerals.{add-one}
 use native.Mathlib.Omega.{arith}
-use borrow.Author.Tests.{eq-eqb, ne-eqb, eqb-true, eqb-false, lt-ltb, le-ltb, le-leb, lt-leb}
+use borrow.Author.Tests.{eq-eqb, ne-eqb, eqb-true, lt-ltb, le-ltb}
 use lib.Dec.{T, eqb, leb, ltb, ltb→lt, eqb→eq}
-use lib.IntN.{ℤ, pos, _+ℤ_, _-ℤ_, _*ℤ_}
+use lib.IntN.{ℤ, pos, _+ℤ_, _-ℤ_}
 use lib.ListN.{length, getD, set, length-set}
 use lib.Seq.{getD-set-same, getD-set-other, set-set, set-comm, lt-length-set}
 use Rattle.answers.specs.declared.Answer.{Answer}
 use Rattle.answers.specs.Answers.{done, refused, unless, searched, ends}
-use Rattle.answers.proofs.Verdicts.{kept, taken, passed}
-use Rattle.whole.specs.Numbers.{inRange, roundShift, lowest, highest}
+use Rattle.whole.specs.Numbers.{inRange}
 use Rattle.whole.specs.Search.{seek}
 use Rattle.whole.specs.Sums.{tab}
 use Rattle.whole.proofs.Fill.{length-tab, tab-same}
 use Rattle.whole.proofs.Tests.{and-left, and-right, below, below-at}
 use Rattle.whole.proofs.Linear.{eqZ, eqZ→eq}
-use Rattle.av1.specs.Steps.{item, cosOf, sinOf, turnX, turnY, turnOf, sumsVerdict, sumsOf, stepOf, onward, goes}
+use Rattle.av1.specs.Steps.{item, cosOf, sinOf, turnX, turnY, turnOf, sumsOf, stepOf, onward, goes}
 use Rattle.av1.specs.Tables.{angles4, angles8, angles16, angles32, angles64, anglesOf, from4, from8, from16, from32, from64, ops4, ops8, ops16, ops32, ops64, lengthOk, fromOf, opsOf, countOf}
 use Rattle.av1.specs.Calls.{low, high, numberOk, permuted, settled, ran, front, ranOf, dctOf}
 use Rattle.av1_agree.specs.Document.{cos128, sin128, brev, Step, B, H, steps, after, saved, runs, log, firstOut, reordered, processed, byDocument}

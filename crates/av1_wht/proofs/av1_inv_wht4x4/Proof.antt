@@ -1,5 +1,5 @@
 -- `av1_wht::av1_inv_wht4x4` meets its contract: the answer is the judge's, and where that is Done, the numbers are divided and transformed. Assumes nothing.
-use mathlib.Core.Path.{_≡_, refl, sym, ap, _∙_, subst}
+use mathlib.Core.Path.{refl, sym, ap, _∙_, subst}
 use Rattle.answers.proofs.Endings.{same-number, ends-refused, ends-done}
 use Rattle.wht.specs.Wht.{iwht}
 use Rattle.wht.specs.Calls.{Sixteen}

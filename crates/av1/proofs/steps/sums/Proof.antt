@@ -1,22 +1,22 @@
 -- `av1::steps::sums` meets its contract: the tests in their order, and the two stores. Assumes nothing.
 use mathlib.Core.Path.{_≡_, sym, ap, _∙_}
-use mathlib.Core.Bool.{Bool, true, false}
+use mathlib.Core.Bool.{true, false}
 use Prim.Native.Nat.{ℕ, _+_}
 use native.Mathlib.Omega.{arith}
 use borrow.Author.Tests.{not-true, not-false}
-use lib.Dec.{lit<, lit≤}
+use lib.Dec.{lit<}
 use lib.IntN.{ℤ, _+ℤ_, _-ℤ_}
 use lib.ListN.{set}
 use mir.Syntax.{w32}
 use mir.Val.{toZ, ofZ}
 use mir.ValLaws.{toZ-ofZ}
 use Rattle.whole.specs.Numbers.{inRange}
-use Rattle.whole.proofs.Num.{Num, made, plus, minus, ask, read, back}
+use Rattle.whole.proofs.Num.{Num, made, plus, minus, ask, read}
 use Rattle.answers.specs.declared.Answer.{Answer}
 use Rattle.answers.specs.Answers.{refused}
 use Rattle.answers.proofs.Verdicts.{opens, stops}
 use Rattle.answers.proofs.Endings.{ends-refused, ends-done}
-use Rattle.av1.specs.Steps.{item, sumsVerdict, sumsOf}
+use Rattle.av1.specs.Steps.{item}
 use borrow.Author.Needs.{needs}
 use Rattle.av1.proofs.steps.sums.Statement.{statement}
 use Rattle.av1.proofs.steps.sums.Tie as tie
