@@ -12,6 +12,7 @@ import sys
 sys.dont_write_bytecode = True
 
 import av1_cases
+import history_model
 import model
 import stream
 import tables
@@ -258,6 +259,73 @@ def history(rng, steps):
     return cases
 
 
+# Histories that remain: section 9 of document 02.
+
+
+def empty_memory(width, rows):
+    return [0] * history_model.STEPS, [0] * history_model.LEVELS, [0] * history_model.cells_of(width, rows)
+
+
+class Remaining:
+    """A history and its plane, from the beginning on. Each move makes a case of it, and goes on from what the model leaves."""
+
+    def __init__(self, rng):
+        self.rng = rng
+        self.stride, self.rows = rng.randint(5, 16), rng.randint(4, 12)
+        self.width = rng.randint(4, self.stride)
+        length = self.stride * self.rows
+        depth = rng.randint(8, 12)
+        self.plane = samples(rng, length, 8) if rng.randrange(2) else [100] * length
+        self.depths = [depth] * 3 + [rng.randint(8, 12)]
+        self.memory = list(empty_memory(self.width, self.rows))
+
+    def remaining(self):
+        return history_model.entries(*self.memory[:2])
+
+    def step(self):
+        rng = self.rng
+        depth, row, column = rng.choice(self.depths), rng.randint(0, self.rows - 4), rng.randint(0, self.width - 4)
+        if self.remaining() and rng.randrange(3) == 0:
+            row, column = rng.choice(self.remaining())[2:4]
+        present = [self.plane[at] for at in model.places(self.stride, row, column)]
+        wanted = [min(max(p + rng.randint(-9, 9), 0), 255) for p in present] if rng.randrange(2) else samples(rng, 16, 8)
+        level = model.forward([b - a for a, b in zip(present, wanted)])
+        if rng.randrange(6) == 0:
+            level[rng.randrange(16)] += rng.choice((1, -300, 9000))
+        return Case(28, [depth, self.stride, self.width, self.rows, row, column], [level, self.plane, *self.memory])
+
+    def move(self, call):
+        """The case of a call on what stands now; a withdrawal is more often of a step that remains."""
+        if call == 28:
+            return self.step()
+        numbers = [entry.number for entry in self.remaining()]
+        extra = [self.rng.choice((*numbers, *numbers, 0, max(numbers, default=0) + 1))] if call in (30, 31) else []
+        return Case(call, [self.stride, self.width, self.rows, *extra], [self.plane, *self.memory])
+
+    def go_on(self, case):
+        answer, after = model.outcome(case)
+        self.plane, self.memory = after.slices[-4], after.slices[-3:]
+        return answer
+
+    def play(self, moves):
+        """Cases one after the other, each on what the one before it left."""
+        for _ in range(moves):
+            case = self.move(self.rng.choice((28, 28, 28, 28, *stream.HISTORY_CALLS)))
+            self.go_on(case)
+            yield case
+
+
+def remembered(rng, call):
+    """An accepted case of a call on a history."""
+    while True:
+        history = Remaining(rng)
+        for _ in range(rng.randint(2, 8)):
+            history.go_on(history.step())
+        case = history.move(call)
+        if model.outcome(case)[0] == model.DONE:
+            return case
+
+
 def older(rng, make):
     """A case of the older edition, drawn until none of its numbers leaves the bit count."""
     while True:
@@ -269,6 +337,7 @@ def older(rng, make):
 def accepted(rng, blocks, call):
     """An accepted case of any call."""
     makers = {"chroma": lambda: chroma(rng), "wht": lambda: wht(rng, call), "lossless": lambda: lossless(rng, call)}
+    makers |= {name: lambda: remembered(rng, call) for name in map(lambda c: stream.CALLS[c].kind, stream.HISTORY_CALLS)}
     makers |= {"av1 dct": lambda: older(rng, av1_cases.a_dct), "av1 wht": lambda: older(rng, av1_cases.a_wht)}
     return makers.get(stream.CALLS[call].kind, lambda: blocks.case(call))()
 
@@ -308,12 +377,26 @@ def lengthen(rng, case):
 
 def stray(rng, case):
     """Some numbers anywhere in a slice replaced by far or near ones."""
-    values = rng.choice(case.slices)
+    slice = rng.randrange(len(case.slices))
+    values = case.slices[slice]
     depth = case.arguments[0] if case.arguments and case.arguments[0] <= 12 else 8
     ends = (-1, 2**depth, -(2 ** (depth + 7)) - 1, 2 ** (depth + 7), RANGE[0] - 1, RANGE[1] + 1)
     ends += (-65_536, 65_536, -262_145, 262_145, 524_288, *WHOLE)
+    unsigned = stream.CALLS[case.call].slices[slice] in stream.UNSIGNED
     for _ in range(rng.randint(1, 3) if values else 0):
-        values[rng.randrange(len(values))] = rng.choice(ends)
+        value = rng.choice(ends)
+        values[rng.randrange(len(values))] = value % 2**32 if unsigned else value
+
+
+def forge(rng, case):
+    """A history whose list says something else than before."""
+    if case.call in stream.HISTORY_CALLS:
+        steps, levels = case.slices[-3:-1]
+        place = rng.choice((0, rng.randint(1, max(4 * min(steps[0], 4096), 1)) if steps else 0))
+        if place < len(steps):
+            steps[place] = rng.choice((0, 1, 2, 7, 13, 40, 4096, 4097, 2**31, 2**32 - 4, 2**32 - 1))
+        if levels and rng.randrange(3) == 0:
+            levels[rng.randrange(16)] = rng.choice((262_144, 262_145, -262_145, *WHOLE))
 
 
 def nudge(rng, case):
@@ -337,6 +420,9 @@ FAULTS = (
     set_argument("column", 1, 5, 65_533, *HUGE, 2**64 - 5, 2**64 - 3),
     set_argument("sine", -257, 257, *WHOLE),
     set_argument("cosine", -257, 257, *WHOLE),
+    set_argument("rows", 0, 3, 4, 5, 65_536, 65_537, *HUGE),
+    set_argument("number", 0, 1, 2, 3, 2**32 - 1),
+    forge,
     set_argument("length", 0, 1, 3, 5, 12, 31, 63, 65, 128, *HUGE),
     set_argument("bits", 0, 8, 15, 21, 32, 2**31, 2**32 - 1),
     cut,

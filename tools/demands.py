@@ -11,7 +11,7 @@ import model
 import stream
 import tables
 from cases import RANGE, WHOLE
-from stream import CLAMPED, PIXEL_CALLS, ROWS, Case, of_kind
+from stream import CLAMPED, HISTORY_CALLS, PIXEL_CALLS, ROWS, Case, of_kind
 
 # A case and its answer; after is what the written slices hold then, None where only the answer is laid down.
 Demand = collections.namedtuple("Demand", "label case number slice place after", defaults=[0, 0, 0, None])
@@ -67,6 +67,30 @@ def lossless(call, depth=8, stride=8, width=None, row=0, column=0, levels=None, 
     levels = [0] * 16 if levels is None else list(levels)
     arguments = [depth, stride, stride if width is None else width, row, column]
     return Case(call, arguments, [levels, [100] * 64 if plane is None else list(plane)])
+
+
+UP = [4] + [0] * 15  # P12: the levels of sixteen residuals of 1
+
+
+def memory(*entries, width=8, rows=8, index=None):
+    """A history in its lent memory: entries of number, depth, row, column, levels; an index all 0 where none is named."""
+    steps, levels = [len(entries)], []
+    for number, depth, row, column, own in entries:
+        steps += [number, depth, row, column]
+        levels += own
+    steps += [0] * (16_385 - len(steps))
+    levels += [0] * (65_536 - len(levels))
+    return [steps, levels, [0] * (-(-width // 4) * -(-rows // 4)) if index is None else list(index)]
+
+
+def remembered(call, *entries, depth=8, stride=8, width=8, rows=8, row=0, column=0, level=UP, number=1, plane=None, index=None):
+    """A case of a call on a history."""
+    glass = [stride, width, rows]
+    arguments = {28: [depth, *glass, row, column], 30: [*glass, number], 31: [*glass, number]}.get(call, glass)
+    own = [list(level)] if call == 28 else []
+    plane = [100] * 64 if plane is None else list(plane)
+    fits = 4 <= width <= 65_536 and 4 <= rows <= 65_536
+    return Case(call, arguments, [*own, plane, *memory(*entries, width=width if fits else 8, rows=rows if fits else 8, index=index)])
 
 
 def older_dct(length, numbers, bits=16):
@@ -157,6 +181,162 @@ def older_sums():
         yield Demand(f"{label}, four times the levels", older_wht([4 * level for level in levels]), after=[residual])
 
 
+# The history of document 02, section 9: plane, steps, levels and index after each call, by hand.
+
+
+def on_block(plane, stride, row, column, gain):
+    plane = list(plane)
+    for y in range(row, row + 4):
+        for x in range(column, column + 4):
+            plane[y * stride + x] += gain
+    return plane
+
+
+def history_steps():
+    flat = [100] * 64
+    for row, column, cells in ((0, 0, [1, 0, 0, 0]), (4, 4, [0, 0, 0, 1]), (0, 2, [1, 1, 0, 0]), (3, 0, [1, 0, 1, 0]), (2, 1, [1] * 4)):
+        after = [on_block(flat, 8, row, column, 1), *memory((1, 8, row, column, UP), index=cells)]
+        yield Demand(f"first step at {row}, {column}", remembered(28, row=row, column=column), after=after)
+    first, gap = (3, 8, 0, 0, UP), (7, 9, 4, 4, UP)
+    after = [on_block(flat, 8, 0, 4, 1), *memory(first, gap, (8, 8, 0, 4, UP), index=[3, 8, 0, 7])]
+    case = remembered(28, first, gap, row=0, column=4, index=[3, 0, 0, 7])
+    yield Demand("a list with a gap", case, after=after)
+    after = [on_block(flat, 8, 0, 4, 1), *memory(first, gap, (8, 8, 0, 4, UP), index=[40, 8, 42, 43])]
+    case = remembered(28, first, gap, row=0, column=4, index=[40, 41, 42, 43])
+    yield Demand("an index is not read", case, after=after)
+    pads = ([100] * 6 + [-1] * 2) * 7
+    after = [on_block(pads, 8, 3, 2, 1), *memory((1, 8, 3, 2, UP), width=6, rows=7, index=[1] * 4)]
+    case = remembered(28, width=6, rows=7, row=3, column=2, plane=pads)
+    yield Demand("partial cells at the edges", case, after=after)
+
+
+def history_undos():
+    one, two = (1, 8, 0, 0, UP), (5, 8, 2, 2, UP)
+    shown = on_block(on_block([100] * 64, 8, 0, 0, 1), 8, 2, 2, 1)
+    behind = memory(one, two, index=[1, 0, 0, 0])
+    behind[0][0] = 1
+    yield Demand("undo of the newest", remembered(29, one, two, plane=shown, index=[5] * 4), after=[on_block(shown, 8, 2, 2, -1), *behind])
+    gone = memory(one, index=[0, 9, 9, 9])
+    gone[0][0] = 0
+    yield Demand("undo of the only step", remembered(29, one, plane=shown, index=[9] * 4), after=[on_block(shown, 8, 0, 0, -1), *gone])
+    for call in (29, 30, 31):
+        yield Demand("nothing remains", remembered(call, number=0), 13)
+
+
+def history_withdrawals():
+    """Steps at columns 0, 4 and 8 of a line share cells with a step at column 2 or 6, samples with none two places on."""
+    plane = [100] * 48
+    entry = lambda number, column: (number, 8, 0, column, UP)
+    make = lambda call, *entries, number: remembered(
+        call, *entries, number=number, stride=12, width=12, rows=4, plane=plane, index=[9] * 3
+    )
+    two = entry(1, 2), entry(2, 6)
+    left = memory(entry(2, 6), index=[0, 2, 9], width=12, rows=4)
+    left[0][5:9] = [2, 8, 0, 6]
+    left[1][16:32] = UP
+    yield Demand("a step in the same cell", make(30, *two, number=1), after=[on_block(plane, 12, 0, 2, -1), *left])
+    yield Demand("a step in the same cell, asked", make(31, *two, number=1))
+    for call in (30, 31):
+        for column in (0, 3, 5):
+            yield Demand(f"overlapped at {column}", make(call, entry(4, 2), entry(9, column), number=4), 13, 0, 4)
+        for column in (6, 7, 8):
+            yield Demand(f"free at {column}", make(call, entry(4, 2), entry(9, column), number=4))
+        yield Demand("the newest", make(call, entry(4, 2), entry(9, 2), number=9))
+        for number in (0, 1, 3, 5, 8, 10, 2**32 - 1):
+            yield Demand(f"no step {number}", make(call, entry(4, 2), entry(9, 2), number=number), 13, 0, number)
+    three = entry(1, 0), entry(2, 4), entry(6, 8)
+    left = memory(entry(1, 0), entry(6, 8), index=[9, 0, 9], width=12, rows=4)
+    left[0][9:13], left[1][32:48] = [6, 8, 0, 8], UP
+    yield Demand("out of the middle", make(30, *three, number=2), after=[on_block(plane, 12, 0, 4, -1), *left])
+
+
+def history_rebuilds():
+    entries = (2, 8, 0, 0, UP), (3, 8, 1, 3, UP), (9, 8, 4, 4, UP)
+    yield Demand("a rebuild", remembered(32, *entries, index=[7] * 4), after=[[3, 3, 3, 9]])
+    yield Demand("a rebuild of nothing", remembered(32, index=[7] * 4), after=[[0] * 4])
+
+
+def history_glasses():
+    """Refusal 5, and 6 of a step: stride, width and rows, then the block."""
+    for call in HISTORY_CALLS:
+        for name, value in (("stride", 3), ("stride", 65_537), ("width", 3), ("width", 9), ("rows", 3), ("rows", 65_537)):
+            yield Demand(f"{name} {value}", remembered(call, **{name: value}), 5)
+        yield Demand("rows 2^32 + 8", remembered(call, rows=2**32 + 8), 5)
+        expected = {29: (13,), 30: (13, 0, 1), 31: (13, 0, 1)}.get(call, ())
+        yield Demand("4 rows", remembered(call, width=4, rows=4), *expected)
+        yield Demand("65,536 rows", remembered(call, stride=4, width=4, rows=65_536), *expected)
+    for row, column, *refusal in ((4, 4), (5, 4, 6, 2), (4, 5, 6, 2), (2**64 - 4, 0, 6, 2), (0, 2**64 - 4, 6, 2)):
+        yield Demand(f"row {row}, column {column}", remembered(28, row=row, column=column, plane=[100] * 128), *refusal)
+    yield Demand("below the visible rows", remembered(28, rows=7, row=4, plane=[100] * 128), 6, 2)
+    yield Demand("a short plane", remembered(28, row=4, column=4, plane=[100] * 63), 6, 2)
+    for length in (0, 15, 17):
+        yield Demand(f"{length} levels", remembered(28, level=[0] * length, row=9), 6, 1)
+
+
+def history_memories():
+    """Refusal 12: lengths, a count, entries out of range, numbers that don't rise."""
+    fine = (1, 8, 0, 0, UP)
+    bad = {
+        "depth 7": (2, 7, 0, 0, UP),
+        "depth 13": (2, 13, 0, 0, UP),
+        "level 262,145": (2, 8, 0, 0, [262_145] + [0] * 15),
+        "level -262,145": (2, 8, 0, 0, [0] * 15 + [-262_145]),
+        "column 5": (2, 8, 0, 5, UP),
+        "column 2^32 - 4": (2, 8, 0, 2**32 - 4, UP),
+        "row 5": (2, 8, 5, 0, UP),
+        "row 2^32 - 4": (2, 8, 2**32 - 4, 0, UP),
+        "the same number": (1, 8, 0, 0, UP),
+        "a lower number": (0, 8, 0, 0, UP),
+    }
+    for call in HISTORY_CALLS:
+        for label, entry in bad.items():
+            yield Demand(label, remembered(call, fine, entry), 12)
+        yield Demand("a number 0", remembered(call, (0, 8, 0, 0, UP)), 12)
+        yield Demand("ends of the ranges", remembered(call, (1, 12, 4, 4, [0] * 15 + [-262_144])), *((10, 2, 36) if call in (29, 30, 31) else ()))
+        yield Demand("an entry off the plane", remembered(call, (1, 8, 4, 4, UP), plane=[100] * 63), 12)
+        for i, name in enumerate(("steps", "levels", "index"), -3):
+            for change in (lambda values: values[:-1], lambda values: values + [0], lambda values: []):
+                case = remembered(call)
+                case.slices[i] = change(case.slices[i])
+                yield Demand(f"{len(case.slices[i])} {name}", case, 12)
+        case = remembered(call)
+        case.slices[-3][0] = 4097
+        yield Demand("4,097 steps", case, 12)
+
+
+def history_numbers():
+    """Refusals 7, 8, 10 of a step, 8 and 10 of an undo, before 13 and 14; the plane's own places."""
+    own, other = (3, 8, 2, 3, UP), (4, 8, 2, 3, UP)
+    down = [-4] + [0] * 15
+    last = (2**32 - 1, 8, 0, 0, [0] * 16)
+    yield Demand("a level", remembered(28, level=[0] * 9 + [262_145] + [0] * 6), 7, 1, 9)
+    yield Demand("a level before a sample", remembered(28, level=[262_145] * 16, plane=[-1] * 64), 7, 1, 0)
+    for value in (-1, 256):
+        yield Demand(f"sample {value}", remembered(28, row=2, column=3, plane=with_number(64, 29, value, 100)), 8, 2, 29)
+        for call in (29, 30, 31):
+            case = remembered(call, own, other, number=3, plane=with_number(64, 29, value, 100))
+            yield Demand(f"sample {value}", case, 8, 2, 29)
+    yield Demand("a sample that would leave", remembered(28, row=2, column=3, plane=with_number(64, 46, 255, 100)), 10, 2, 46)
+    yield Demand("a sample that would leave", remembered(28, level=down, plane=[0] * 64), 10, 2, 0)
+    for call in (29, 30, 31):
+        case = remembered(call, own, other, number=3, plane=with_number(64, 46, 0, 100))
+        yield Demand("a sample that would leave", case, 10, 2, 46)
+        yield Demand("overlapped, and fine", remembered(call, own, other, number=3), *((13, 0, 3) if call != 29 else ()))
+    yield Demand("the last number", remembered(28, last), 14)
+    yield Demand("a sample before the last number", remembered(28, last, plane=[256] * 64), 8, 2, 0)
+    yield Demand("the last number but one", remembered(28, (2**32 - 2, 8, 0, 0, UP)))
+    full = [(number, 8, 0, 0, [0] * 16) for number in range(1, 4097)]
+    yield Demand("4,096 remain", remembered(28, *full), 14)
+    yield Demand("4,096 remain, and a sample", remembered(28, *full, plane=with_number(64, 3, 256, 100)), 8, 2, 3)
+    yield Demand("4,095 remain", remembered(28, *full[:-1]))
+    yield Demand("undo of 4,096", remembered(29, *full))
+
+
+def history():
+    sections = history_steps, history_undos, history_withdrawals, history_rebuilds, history_glasses, history_memories, history_numbers
+    return [demand for section in sections for demand in section()]
+
+
 def document():
     return [*pixel_sums(), *other_sums(), *range_sums(), *older_sums()]
 
@@ -168,6 +348,7 @@ def depths():
     makers = [lambda depth, call=call: pixel(call, depth) for call in PIXEL_CALLS]
     makers += [lambda depth: chroma([1], [2], depth), lambda depth: chroma([], [], depth)]
     makers += [lambda depth, call=call: lossless(call, depth) for call in (8, 9)]
+    makers += [lambda depth: remembered(28, depth=depth)]
     for make in makers:
         for depth in (8, 9, 10, 11, 12):
             yield Demand(f"depth {depth}", make(depth))
@@ -604,7 +785,7 @@ def edges():
     sections = (depths, sizes_and_types, kinds, pixel_lengths, several_short, strict_ranges, orders, clamping_ranges)
     sections += (sample_ranges, plane_pads, add_strides, chroma_edges, wht_edges, lossless_places, lossless_widths)
     sections += (lossless_pads, lossless_numbers, older_edges, older_intermediates, together)
-    return [demand for section in sections for demand in section()]
+    return [demand for section in sections for demand in section()] + history()
 
 
 # Streams that break the rules of docs/CASES.md, each after one whole case.
@@ -620,4 +801,8 @@ def broken_streams():
     longer.append(word(6) + word(20_001) + bytes(4 * 20_001) + word(16) + bytes(64))
     wide = [word(5) + word(2**32 + 8) + word(0) + word(256) + word(0) + word(0)]
     wide += [word(5) + word(8) + word(angle) + word(256) + word(0) + word(0) for angle in (2**31, -(2**31) - 1, 2**63)]
+    glass = word(8) * 3
+    for length, count in ((4, 5), (70_001, 0), (2**64 - 1, 0), (4, 2**64 - 1)):
+        longer.append(word(29) + glass + word(0) + word(length) + word(count) + bytes(4 * min(count, 8)))
+    wide.append(word(30) + glass + word(2**32) + word(0) + word(0) * 6)
     return [whole + part + rest for part in unknown + longer + wide for rest in (b"", whole)] + [whole + end for end in ends]

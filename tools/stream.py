@@ -9,11 +9,11 @@ import collections
 import struct
 import sys
 
-LIMIT = 20_000
+LIMIT, TRIMMED_LIMIT = 20_000, 70_000
 BROKEN = struct.pack("<Q", 2**64 - 1)
 
-# A kind is what calls have in common that differ in lanes, order or range.
-Call = collections.namedtuple("Call", "name kind arguments slices written")
+# A kind is what calls have in common that differ in lanes, order or range. Slices are written or trimmed by their places.
+Call = collections.namedtuple("Call", "name kind arguments slices written trimmed", defaults=[()])
 Case = collections.namedtuple("Case", "call arguments slices")
 
 # Number 0 is Done, slice 0 none; the order is that of the record that a call returns.
@@ -36,6 +36,18 @@ def _lossless(name):
     return Call(name, "lossless", ("depth", "stride", "width", "row", "column"), ("levels", "plane"), (1,))
 
 
+def _history(name, arguments, first, written):
+    slices = (*first, "plane", "steps", "levels of the history", "index")
+    places = tuple(slices.index(slice) for slice in written)
+    return Call(name, name, arguments, slices, places, tuple(range(len(slices) - 3, len(slices))))
+
+
+_GLASS = ("stride", "width", "rows")
+_MEMORY = ("steps", "levels of the history", "index")
+
+# Slices of unsigned numbers.
+UNSIGNED = ("steps", "index")
+
 CALLS = {
     1: _recon("inv_txfm_recon_f32"),
     2: _recon("inv_txfm_recon_f32, four lanes"),
@@ -54,6 +66,11 @@ CALLS = {
     15: _recon("inv_txfm_recon_f32_clamped, four lanes"),
     16: _add("inv_txfm_add_clamped"),
     17: _add("inv_txfm_add_clamped, four lanes"),
+    28: _history("history_step", ("depth", *_GLASS, "row", "column"), ("levels",), ("plane", *_MEMORY)),
+    29: _history("history_undo", _GLASS, (), ("plane", *_MEMORY)),
+    30: _history("history_withdraw", (*_GLASS, "number"), (), ("plane", *_MEMORY)),
+    31: _history("history_can_withdraw", (*_GLASS, "number"), (), ()),
+    32: _history("history_rebuild", _GLASS, (), ("index",)),
     34: Call("av1_inv_dct", "av1 dct", ("length", "bits"), ("list",), (0,)),
     35: Call("av1_inv_wht4x4", "av1 wht", ("bits",), ("list",), (0,)),
 }
@@ -68,6 +85,7 @@ def of_kind(*kinds):
 
 
 PIXEL_CALLS = of_kind("recon", "add")
+HISTORY_CALLS = tuple(number for number, call in CALLS.items() if call.trimmed)
 
 
 def word(value):
@@ -75,24 +93,40 @@ def word(value):
 
 
 def nums(values):
-    packed = array.array("i", values)
+    """The bytes of numbers, signed or unsigned."""
+    packed = array.array("I" if values and max(values) >= 2**31 else "i", values)
     if sys.byteorder == "big":
         packed.byteswap()
     return packed.tobytes()
 
 
+def used(values):
+    """The count of numbers up to the last that is not 0."""
+    return -(-len(nums(values).rstrip(b"\0")) // 4)
+
+
 def encode(case):
     parts = [word(case.call), *map(word, case.arguments)]
-    for values in case.slices:
-        parts += [word(len(values)), nums(values)]
+    for i, values in enumerate(case.slices):
+        parts.append(word(len(values)))
+        if i in CALLS[case.call].trimmed:
+            parts.append(word(used(values)))
+            values = values[: used(values)]
+        parts.append(nums(values))
     return b"".join(parts)
 
 
 def encode_answer(case, answer):
     """The answer to a case whose written slices hold what the call left."""
-    written = CALLS[case.call].written
-    words = [word(answer.number), word(answer.place), word(answer.slice)]
-    return b"".join(words + [nums(case.slices[i]) for i in written])
+    call = CALLS[case.call]
+    parts = [word(answer.number), word(answer.place), word(answer.slice)]
+    for i in call.written:
+        values = case.slices[i]
+        if i in call.trimmed:
+            values = values[: used(values)]
+            parts.append(word(len(values)))
+        parts.append(nums(values))
+    return b"".join(parts)
 
 
 def answer_in(data):
@@ -103,14 +137,25 @@ def answer_in(data):
 
 def outcome_in(case, data):
     """The answer to a case by its bytes, and the case with its written slices as the call left them."""
-    reader, slices = Reader(data[24:]), [list(values) for values in case.slices]
-    for i in CALLS[case.call].written:
-        slices[i] = reader.numbers(len(slices[i]))
+    reader, slices, call = Reader(data[24:]), [list(values) for values in case.slices], CALLS[case.call]
+    for i in call.written:
+        length = len(slices[i])
+        slices[i] = reader.numbers(reader.word() if i in call.trimmed else length, call.slices[i])
+        slices[i] += [0] * (length - len(slices[i]))
     return answer_in(data), Case(case.call, case.arguments, slices)
 
 
-def answer_length(case):
-    return 24 + 4 * sum(len(case.slices[i]) for i in CALLS[case.call].written)
+def answer_end(case, data, at):
+    """Where the answer to a case ends that begins at a place of some data."""
+    call = CALLS[case.call]
+    at += 24
+    for i in call.written:
+        count = len(case.slices[i])
+        if i in call.trimmed:
+            count = int.from_bytes(data[at : at + 8], "little")
+            at += 8
+        at += 4 * count
+    return at
 
 
 class Reader:
@@ -127,14 +172,20 @@ class Reader:
     def word(self):
         return struct.unpack("<Q", self.take(8))[0]
 
-    def nums(self):
+    def nums(self, name):
         length = self.word()
         if length > LIMIT:
             raise Broken
-        return self.numbers(length)
+        return self.numbers(length, name)
 
-    def numbers(self, count):
-        values = array.array("i", self.take(4 * count))
+    def trimmed(self, name):
+        length, count = self.word(), self.word()
+        if length > TRIMMED_LIMIT or count > length:
+            raise Broken
+        return self.numbers(count, name) + [0] * (length - count)
+
+    def numbers(self, count, name):
+        values = array.array("I" if name in UNSIGNED else "i", self.take(4 * count))
         if sys.byteorder == "big":
             values.byteswap()
         return values.tolist()
@@ -145,7 +196,7 @@ class Reader:
             value -= 2**64 if value >= 2**63 else 0
             if not -(2**31) <= value < 2**31:
                 raise Broken
-        if name in ("depth", "bits") and value >= 2**32:
+        if name in ("depth", "bits", "number") and value >= 2**32:
             raise Broken
         return value
 
@@ -155,7 +206,8 @@ class Reader:
             raise Broken
         call = CALLS[number]
         arguments = [self.argument(name) for name in call.arguments]
-        return Case(number, arguments, [self.nums() for _ in call.slices])
+        readers = [self.trimmed if i in call.trimmed else self.nums for i in range(len(call.slices))]
+        return Case(number, arguments, [read(name) for read, name in zip(readers, call.slices)])
 
 
 def decode(data):
@@ -169,9 +221,9 @@ def answers(data, cases):
     """The bytes that answer each of the cases; short ones where the data ends early."""
     at = 0
     for case in cases:
-        length = answer_length(case)
-        yield data[at : at + length]
-        at += length
+        end = answer_end(case, data, at)
+        yield data[at:end]
+        at = end
 
 
 def describe(case):
@@ -183,22 +235,21 @@ def describe(case):
 
 def describe_difference(case, wanted, got):
     """Where two different answers to one case part."""
-    if len(wanted) != len(got):
+    try:
+        (right, left), (answer, after) = (outcome_in(case, data) for data in (wanted, got))
+    except (Broken, struct.error):
         return f"{len(got)} bytes instead of {len(wanted)}"
-    for name, at in (("number", 0), ("place", 8), ("slice", 16)):
-        a, b = (struct.unpack_from("<Q", answer, at)[0] for answer in (wanted, got))
+    for name in Answer._fields:
+        a, b = getattr(right, name), getattr(answer, name)
         if a != b:
             return f"{name} {b} instead of {a}"
-    at = 24
     for i in CALLS[case.call].written:
         name = CALLS[case.call].slices[i]
-        form = "<f" if name == "output" else "<i"
-        for index in range(len(case.slices[i])):
-            if wanted[at : at + 4] != got[at : at + 4]:
-                a, b = (struct.unpack_from(form, answer, at)[0] for answer in (wanted, got))
-                return f"{name}[{index}] is {b} instead of {a}"
-            at += 4
-    return "no difference"
+        shown = (lambda bits: struct.unpack("<f", nums([bits]))[0]) if name == "output" else int
+        for index, (a, b) in enumerate(zip(left.slices[i], after.slices[i])):
+            if a != b:
+                return f"{name}[{index}] is {shown(b)} instead of {shown(a)}"
+    return "no difference" if wanted == got else f"{len(got)} bytes instead of {len(wanted)}"
 
 
 def counts(refusals):
@@ -211,7 +262,7 @@ def main(path, wanted_path, got_path):
     at = 0
     try:
         for index, case in enumerate(decode(data)):
-            end = at + answer_length(case)
+            end = answer_end(case, wanted, at)
             if wanted[at:end] != got[at:end]:
                 print(f"case {index}: {describe(case)}")
                 print(describe_difference(case, wanted[at:end], got[at:end]))
