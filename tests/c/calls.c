@@ -412,6 +412,157 @@ static void narrow(block_call *call, const char *name, int32_t gained) {
     expect(done(answer) && same(), name, "width 6, column 2");
 }
 
+/* ---- Histories */
+
+/* A plane of 8 by 8 samples and the memory of its history; `was` is what is expected. */
+static struct kept {
+    int32_t plane[64];
+    uint32_t steps[PANEL_HISTORY_STEPS + 1];
+    int32_t levels[PANEL_HISTORY_LEVELS + 1];
+    uint32_t index[5];
+} kept, was;
+
+static const struct kept_arguments {
+    uint32_t depth, number;
+    size_t plane_len, stride, width, rows, row, column, level_len, steps_len, levels_len, index_len;
+} kept_usual = {8, 1, 64, 8, 8, 8, 0, 0, 16, PANEL_HISTORY_STEPS, PANEL_HISTORY_LEVELS, PANEL_HISTORY_INDEX(8, 8)};
+
+static const int32_t one_up[16] = {4}; /* P12: sixteen residuals of 1 */
+
+static panel_answer kept_step(struct kept_arguments a) {
+    return panel_history_step(a.depth, kept.plane, a.plane_len, a.stride, a.width, a.rows, a.row, a.column, one_up, a.level_len,
+                              kept.steps, a.steps_len, kept.levels, a.levels_len, kept.index, a.index_len);
+}
+
+static panel_answer kept_undo(struct kept_arguments a) {
+    return panel_history_undo(kept.plane, a.plane_len, a.stride, a.width, a.rows, kept.steps, a.steps_len, kept.levels,
+                              a.levels_len, kept.index, a.index_len);
+}
+
+static panel_answer kept_withdraw(struct kept_arguments a) {
+    return panel_history_withdraw(kept.plane, a.plane_len, a.stride, a.width, a.rows, a.number, kept.steps, a.steps_len,
+                                  kept.levels, a.levels_len, kept.index, a.index_len);
+}
+
+static panel_answer kept_can_withdraw(struct kept_arguments a) {
+    return panel_history_can_withdraw(kept.plane, a.plane_len, a.stride, a.width, a.rows, a.number, kept.steps, a.steps_len,
+                                      kept.levels, a.levels_len, kept.index, a.index_len);
+}
+
+static panel_answer kept_rebuild(struct kept_arguments a) {
+    return panel_history_rebuild(kept.plane, a.plane_len, a.stride, a.width, a.rows, kept.steps, a.steps_len, kept.levels,
+                                 a.levels_len, kept.index, a.index_len);
+}
+
+typedef panel_answer kept_call(struct kept_arguments);
+
+static void expect_kept(panel_answer answer, uint32_t number, uint32_t slice, size_t place, const char *what) {
+    expect(is(answer, number, slice, place) && memcmp(&kept, &was, sizeof kept) == 0, "histories", what);
+    kept = was;
+}
+
+static void forget(void) {
+    static const struct kept none;
+    kept = none;
+    fill(kept.plane, 64, 100);
+    was = kept;
+}
+
+/* What a step or its undo is expected to leave of the plane. */
+static void expect_block(size_t row, size_t column, int32_t gained) {
+    for (size_t r = row; r < row + 4; r++)
+        for (size_t x = column; x < column + 4; x++) was.plane[8 * r + x] += gained;
+}
+
+static void expect_entry(size_t i, uint32_t number, uint32_t row, uint32_t column) {
+    const uint32_t words[4] = {number, 8, row, column};
+    for (int k = 0; k < 4; k++) was.steps[1 + 4 * i + k] = words[k];
+    was.levels[16 * i] = 4;
+}
+
+static void expect_index(uint32_t a, uint32_t b, uint32_t c, uint32_t d) {
+    was.index[0] = a, was.index[1] = b, was.index[2] = c, was.index[3] = d;
+}
+
+/* Steps at 0,0 and 2,2 share a sample; one at 4,0 shares none with the first. */
+static void kept_session(void) {
+    struct kept_arguments a = kept_usual;
+    forget();
+    expect_block(0, 0, 1), expect_entry(0, 1, 0, 0), expect_index(1, 0, 0, 0), was.steps[0] = 1;
+    expect_kept(kept_step(a), 0, 0, 0, "the first step");
+    a.row = a.column = 2;
+    expect_block(2, 2, 1), expect_entry(1, 2, 2, 2), expect_index(2, 2, 2, 2), was.steps[0] = 2;
+    expect_kept(kept_step(a), 0, 0, 0, "a step over it");
+    expect_kept(kept_can_withdraw(a), 13, 0, 1, "an overlapped step, asked");
+    expect_kept(kept_withdraw(a), 13, 0, 1, "an overlapped step, withdrawn");
+    a.number = 7;
+    expect_kept(kept_withdraw(a), 13, 0, 7, "a step that doesn't remain");
+    expect_block(2, 2, -1), expect_index(1, 0, 0, 0), was.steps[0] = 1;
+    expect_kept(kept_undo(a), 0, 0, 0, "the newest undone");
+    a.row = 4, a.column = 0;
+    expect_block(4, 0, 1), expect_entry(1, 2, 4, 0), expect_index(1, 0, 2, 0), was.steps[0] = 2;
+    expect_kept(kept_step(a), 0, 0, 0, "a step beside it");
+    a.number = 1;
+    expect_kept(kept_can_withdraw(a), 0, 0, 0, "a free step, asked");
+    expect_block(0, 0, -1), expect_entry(0, 2, 4, 0), expect_index(0, 0, 2, 0), was.steps[0] = 1;
+    expect_kept(kept_withdraw(a), 0, 0, 0, "a step out of the middle");
+    a.row = a.column = 0;
+    expect_block(0, 0, 1), expect_entry(1, 3, 0, 0), expect_index(3, 0, 2, 0), was.steps[0] = 2;
+    expect_kept(kept_step(a), 0, 0, 0, "a number above the largest");
+    kept.index[0] = kept.index[1] = kept.index[2] = kept.index[3] = 9;
+    expect_kept(kept_rebuild(a), 0, 0, 0, "a rebuild");
+    expect_block(0, 0, -1), expect_index(0, 0, 2, 0), was.steps[0] = 1;
+    expect_kept(kept_undo(a), 0, 0, 0, "an undo");
+    expect_block(4, 0, -1), expect_index(0, 0, 0, 0), was.steps[0] = 0;
+    expect_kept(kept_undo(a), 0, 0, 0, "the last undo");
+    expect_kept(kept_undo(a), 13, 0, 0, "nothing to undo");
+}
+
+static void kept_refusals(void) {
+    kept_call *const calls[] = {kept_step, kept_undo, kept_withdraw, kept_can_withdraw, kept_rebuild};
+    struct kept_arguments a;
+    forget();
+#define WITH(field, value, number, slice, what) \
+    a = kept_usual, a.field = value, expect_kept(calls[k](a), number, slice, 0, what)
+    for (size_t k = 0; k < sizeof calls / sizeof *calls; k++) {
+        WITH(stride, 3, 5, 0, "stride 3");
+        WITH(stride, 65537, 5, 0, "stride 65,537");
+        WITH(width, 3, 5, 0, "width 3");
+        WITH(width, 9, 5, 0, "width 9");
+        WITH(rows, 3, 5, 0, "3 rows");
+        WITH(rows, 65537, 5, 0, "65,537 rows");
+        WITH(steps_len, PANEL_HISTORY_STEPS - 1, 12, 0, "a short list of steps");
+        WITH(steps_len, PANEL_HISTORY_STEPS + 1, 12, 0, "a long list of steps");
+        WITH(levels_len, PANEL_HISTORY_LEVELS - 1, 12, 0, "a short list of levels");
+        WITH(levels_len, PANEL_HISTORY_LEVELS + 1, 12, 0, "a long list of levels");
+        WITH(index_len, 3, 12, 0, "a short index");
+        WITH(index_len, 5, 12, 0, "a long index");
+        was.steps[0] = kept.steps[0] = 4097;
+        WITH(depth, 8, 12, 0, "a count of 4,097");
+        forget();
+        expect_entry(0, 0, 0, 0), was.steps[0] = 1, kept = was;
+        WITH(depth, 8, 12, 0, "a step of number 0");
+        expect_entry(0, 1, 5, 0), kept = was;
+        WITH(depth, 8, 12, 0, "a step below the rows");
+        forget();
+    }
+    size_t k = 0;
+    WITH(depth, 7, 1, 0, "depth 7");
+    WITH(depth, 13, 1, 0, "depth 13");
+    WITH(level_len, 15, 6, 1, "fifteen levels");
+    WITH(row, 5, 6, 2, "row 5");
+    WITH(column, 5, 6, 2, "column 5");
+    WITH(plane_len, 27, 6, 2, "a plane of 27");
+    expect_entry(0, 0xffffffffu, 0, 0), was.steps[0] = 1, kept = was;
+    WITH(depth, 8, 14, 0, "the last number");
+    forget();
+    was.steps[0] = 4096;
+    for (uint32_t i = 0; i < 4096; i++) expect_entry(i, i + 1, 4, 4);
+    kept = was;
+    WITH(depth, 8, 14, 0, "4,096 steps");
+#undef WITH
+}
+
 /* ---- The older edition */
 
 /* The inverse DCT of a list whose number `index` is 4096 and the others 0: the turned number, by hand. */
@@ -580,6 +731,8 @@ int main(void) {
     block_refusals(panel_lossless_undo, "panel_lossless_undo", 0);
     narrow(panel_lossless_step, "panel_lossless_step", 1);
     narrow(panel_lossless_undo, "panel_lossless_undo", -1);
+    kept_session();
+    kept_refusals();
     older_calls();
     longest_plane();
     sentences(panel_refusal_words, "panel_refusal_words", 15);
