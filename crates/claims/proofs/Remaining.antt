@@ -11,7 +11,7 @@
 --     as-the-step-alone    save for 12 and 14, a 5 for the rows and a 6 below the rows, answer and plane are those of the step alone
 --     asked-is-answered    what `history_can_withdraw` answers is what the withdrawal answers
 --     history-step-keeps, .., history-rebuild-keeps    a refused call leaves every lent slice as it was
-use mathlib.Core.Path.{_≡_, ap, _∙_, sym}
+use mathlib.Core.Path.{_≡_}
 use mathlib.Core.Bool.{true, false}
 use mathlib.Core.List.{List}
 use Prim.Native.Nat.{ℕ, _+_, _-_, _≤_, _<_}

@@ -19,7 +19,7 @@ use Rattle.whole.specs.Search.{seek}
 use Rattle.whole.proofs.Cells.{cell-apart}
 use Rattle.whole.proofs.Range.{size-in-range}
 use Rattle.whole.proofs.Search.{seek-all}
-use Rattle.whole.proofs.Tests.{both, and-true}
+use Rattle.whole.proofs.Tests.{both}
 use Rattle.wht.specs.Calls.{Sixteen, numberOk, outside}
 use Rattle.wht.proofs.Lists.{all-small}
 use Rattle.lossless.specs.Gains.{numbers, Lies}

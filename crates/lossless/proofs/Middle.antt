@@ -3,7 +3,7 @@
 --     exchange       two neighbouring steps that share no sample may be exchanged, and every later step is still taken
 --     withdraw       the undo of a step with which no later one shares a sample is accepted at the end, and leaves what the list without it leaves
 --     remains        a plane with such a history is what its remaining steps leave, each of them taken
-use mathlib.Core.Path.{_≡_, refl, sym, ap, _∙_, subst}
+use mathlib.Core.Path.{_≡_, refl, sym, ap, subst}
 use mathlib.Core.Bool.{Bool, true, false}
 use mathlib.Core.List.{List, [], _∷_, _++_}
 use borrow.Author.Tests.{eqb-true, eqb-false}
@@ -11,7 +11,7 @@ use lib.Dec.{eqb}
 use Rattle.answers.specs.declared.Answer.{Answer}
 use Rattle.answers.specs.Answers.{done}
 use Rattle.lossless.specs.History.{keep}
-use Rattle.lossless.specs.Replay.{Replay, start, more, Clear, clear, besides, Came, begin, attempted, undone}
+use Rattle.lossless.specs.Replay.{Replay, start, more, Clear, besides, Came, begin, attempted, undone}
 
 module _
     {P A : Type 0}

@@ -3,16 +3,16 @@
 --     highest-pixel     the largest sample of depths 8 to 12 is a pixel
 --     exact             the f32 of a pixel has the pixel's value
 --     exact-call        so has every number of the block of an accepted call
-use mathlib.Core.Path.{_≡_, refl, sym, ap, _∙_, subst}
-use mathlib.Core.Bool.{Bool, true, false, not, cond, _&&_}
+use mathlib.Core.Path.{_≡_, sym, ap, _∙_, subst}
+use mathlib.Core.Bool.{Bool, true, false, not, cond}
 use mathlib.Core.List.{List}
-use Prim.Native.Nat.{ℕ, _-_, _*_, _/_, _%_, _^_, _≤_, _<_, zero-le}
+use Prim.Native.Nat.{ℕ, _/_, _%_, _^_, _≤_, zero-le}
 use native.Mathlib.Omega.{arith}
 use native.Mathlib.Nat as N
 use borrow.Author.Tests.{lt-ltb}
-use lib.Dec.{T, ltb}
+use lib.Dec.{T}
 use lib.Ieee
-use lib.Ieee.{Float, binary32, ofInt, prec}
+use lib.Ieee.{Float, binary32, ofInt}
 use lib.Ieee.Exact.{HasValue}
 use lib.Ieee.Back.{round-whole}
 use lib.IntN.{ℤ, pos, negsuc, natAbs, _+ℤ_}
@@ -20,7 +20,6 @@ use lib.ListN.{length, getD}
 use lib.Pow.{pow-mono}
 use lib.Signed.{leZ, ltZ, _≤ℤ_, ltZ-no}
 use Rattle.whole.specs.Numbers.{clamp, highest}
-use Rattle.whole.specs.Grid.{inBlock}
 use Rattle.whole.proofs.Tests.{and-true}
 use Rattle.whole.proofs.Fill.{tab-at}
 use Rattle.whole.proofs.Cells.{row-of, column-of}

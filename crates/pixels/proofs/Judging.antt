@@ -9,7 +9,7 @@
 use mathlib.Core.Path.{_≡_, refl, sym, ap, _∙_, subst}
 use mathlib.Core.Bool.{Bool, true, false, _&&_, cond}
 use mathlib.Core.List.{List}
-use Prim.Native.Nat.{ℕ, suc, _+_, _*_, _-_, _/_, _%_, _^_, _≤_, _<_, zero-le}
+use Prim.Native.Nat.{ℕ, _+_, _*_, _-_, _^_, _≤_, _<_, zero-le}
 use native.Mathlib.Nat as N
 use native.Mathlib.Omega.{arith}
 use borrow.Author.Tests.{leb-true, le-leb}
@@ -23,13 +23,12 @@ use Rattle.whole.specs.Grid.{gridOf, Bounded}
 use Rattle.whole.proofs.Search.{seek-same, seek-all, seek-passed}
 use Rattle.whole.proofs.Range.{in-range-size, lowest-size, highest-size}
 use Rattle.whole.proofs.Cells.{cell-place, cell-in}
-use Rattle.whole.proofs.Tests.{both, and-true, and-left, and-right, below, below-at}
+use Rattle.whole.proofs.Tests.{both, and-true, and-left, and-right, below-at}
 use Rattle.answers.specs.declared.Answer.{Answer}
-use Rattle.answers.specs.Answers.{done, refused, unless, searched}
+use Rattle.answers.specs.Answers.{done, refused}
 use Rattle.answers.proofs.Verdicts.{passed, search-passed, stays}
 use Rattle.ranges.specs.Cells.{cellOk}
-use Rattle.tables.specs.declared.size.Size.{Size}
-use Rattle.tables.specs.Sizes.{sizeAt, cut, scaled}
+use Rattle.tables.specs.Sizes.{cut, scaled}
 use Rattle.tables.specs.Kinds.{horOf, verOf, hasKind}
 use Rattle.passes.specs.Passes.{scalable, Scalable, Ready}
 use Rattle.passes.proofs.Steps.{shifts}

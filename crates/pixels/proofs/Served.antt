@@ -22,7 +22,6 @@ use Rattle.whole.proofs.Tests.{cond-case}
 use Rattle.whole.proofs.Fill.{tab-at, tab-same}
 use Rattle.whole.proofs.Cells.{row-in}
 use Rattle.whole.proofs.Range.{clamp-size, lowest-size, highest-size}
-use Rattle.tables.specs.declared.size.Size.{Size}
 use Rattle.tables.specs.Sizes.{sizeAt, cut}
 use Rattle.passes.specs.Passes.{settledTo, passesOf, swOf, shOf}
 use Rattle.pixels.specs.Pixels.{repeats, repeated, residualOf, residualAt}

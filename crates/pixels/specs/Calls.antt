@@ -23,7 +23,6 @@ use Rattle.whole.specs.Grid.{inBlock}
 use Rattle.answers.specs.declared.Answer.{Answer}
 use Rattle.answers.specs.Answers.{done, refused, unless, searched, ends}
 use Rattle.ranges.specs.Cells.{cellOk}
-use Rattle.tables.specs.declared.size.Size.{Size}
 use Rattle.tables.specs.Sizes.{sizeAt, cut, scaled}
 use Rattle.tables.specs.Kinds.{horOf, verOf, hasKind}
 use Rattle.passes.specs.Passes.{scalable, passesOf}

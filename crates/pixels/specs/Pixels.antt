@@ -13,7 +13,6 @@ use lib.Ieee
 use lib.Ieee.{Float, binary32, ofInt}
 use lib.IntN.{ℤ, pos, negsuc, _+ℤ_}
 use Rattle.whole.specs.Numbers.{clamp, highest}
-use Rattle.tables.specs.declared.size.Size.{Size}
 use Rattle.tables.specs.Sizes.{sizeAt}
 use Rattle.passes.specs.Passes.{settledTo, passesOf}
 

@@ -1,14 +1,14 @@
 -- An index that is built from an empty one, the cells of one step after the other. Assumes nothing.
 --     Covered, covered-start, covered-more     a loop that has come to step i
 use mathlib.Core.Path.{_≡_, sym, ap, _∙_}
-use mathlib.Core.Bool.{false, cond}
+use mathlib.Core.Bool.{cond}
 use mathlib.Core.List.{List}
 use Prim.Native.Nat.{ℕ, suc, _+_, _*_, _≤_, _<_, zero-le}
 use native.Mathlib.Numerals.{add-one}
 use native.Mathlib.Omega.{arith}
 use Rattle.whole.specs.Sums.{tab}
 use Rattle.remain.specs.Remaining.{word, numberAt, marks}
-use Rattle.remain.specs.Touch.{shares, lastTouch, across, indexOf, mended}
+use Rattle.remain.specs.Touch.{lastTouch, across, indexOf, mended}
 use Rattle.remain.proofs.Index.{mended-index}
 
 pub record Covered (s : List ℕ) (width rows n : ℕ) (x : List ℕ) (i : ℕ) : Type 0 where

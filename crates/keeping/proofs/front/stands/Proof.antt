@@ -7,7 +7,7 @@ use borrow.Author.Tests.{leb-true, not-true, not-false}
 use lib.Dec.{leb}
 use Rattle.whole.proofs.Tests.{both}
 use Rattle.lossless.specs.Step.{place, fits}
-use Rattle.keeping.specs.Range.{Area, area}
+use Rattle.keeping.specs.Range.{area}
 use Rattle.keeping.proofs.Facts.{Shape, shape-is}
 use Rattle.keeping.proofs.front.stands.Statement.{statement}
 use Rattle.keeping.proofs.front.stands.Tie as tie

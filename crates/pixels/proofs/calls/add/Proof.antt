@@ -1,5 +1,5 @@
 -- `pixels::calls::add` meets its contract: a verdict of Done, the residuals, then the block. Assumes nothing.
-use mathlib.Core.Path.{_≡_, refl, sym, ap, _∙_, subst}
+use mathlib.Core.Path.{refl, sym, ap, _∙_, subst}
 use mathlib.Core.List.{List}
 use Prim.Native.Nat.{ℕ, _+_, _*_, _≤_, _<_}
 use native.Mathlib.Nat as N
@@ -9,11 +9,9 @@ use lib.IntN.{ℤ, pos}
 use lib.ListN.{length, getD}
 use Rattle.whole.specs.Grid.{gridOf, Bounded}
 use Rattle.answers.specs.declared.Answer.{Answer}
-use Rattle.answers.specs.Answers.{ends}
 use Rattle.answers.proofs.Verdicts.{kept, taken}
 use Rattle.tables.specs.declared.size.Size.{Size}
-use Rattle.tables.specs.Sizes.{sizeAt, cut}
-use Rattle.passes.specs.Passes.{swOf, shOf}
+use Rattle.tables.specs.Sizes.{cut}
 use Rattle.passes.proofs.Steps.{area}
 use Rattle.pixels.specs.Pixels.{repeated, residualAt, pixelOf}
 use Rattle.pixels.specs.Calls.{wOf, hOf, Sides, addVerdict, addedBy, added, addOf}

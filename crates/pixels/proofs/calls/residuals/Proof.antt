@@ -1,12 +1,11 @@
 -- `pixels::calls::residuals` meets its contract: the passes, then the step after the columns. Assumes nothing.
-use mathlib.Core.Path.{_≡_, refl, sym, ap, _∙_, subst}
-use Prim.Native.Nat.{ℕ, _^_, _≤_}
+use mathlib.Core.Path.{sym, ap, _∙_, subst}
+use Prim.Native.Nat.{_^_, _≤_}
 use native.Mathlib.Omega.{arith}
 use borrow.Author.Needs.{needs}
 use lib.IntN.{ℤ, natAbs}
-use Rattle.tables.specs.declared.size.Size.{Size}
 use Rattle.tables.specs.Sizes.{sizeAt}
-use Rattle.passes.specs.Passes.{settledTo, passesOf}
+use Rattle.passes.specs.Passes.{settledTo}
 use Rattle.passes.proofs.Steps.{passes-size}
 use Rattle.pixels.proofs.calls.residuals.Statement.{statement}
 use Rattle.pixels.proofs.calls.residuals.Tie as tie

@@ -1,5 +1,5 @@
 -- `pixels::judge::has_kind` meets its contract: each arm is the definition's case. Assumes nothing.
-use mathlib.Core.Path.{_≡_, refl, sym, ap}
+use mathlib.Core.Path.{sym, ap}
 use borrow.Author.Tests.{ne-eqb}
 use Rattle.tables.specs.Kinds.{hasKind}
 use Rattle.pixels.proofs.judge.has_kind.Statement.{statement}

@@ -1,11 +1,11 @@
 -- `pixels::judge::judge_add` meets its contract: refusals 1 to 4, then what the plane asks. Assumes nothing.
-use mathlib.Core.Path.{_≡_, refl, sym, ap, _∙_, subst}
+use mathlib.Core.Path.{sym, ap, _∙_, subst}
 use borrow.Author.Needs.{needs}
 use lib.ListN.{length}
 use Rattle.answers.specs.declared.Answer.{Answer}
 use Rattle.answers.specs.Answers.{done}
 use Rattle.tables.specs.declared.size.Size.{Size}
-use Rattle.pixels.specs.Calls.{Sides, kinds, numbers, onPlane, addVerdict}
+use Rattle.pixels.specs.Calls.{Sides, numbers, onPlane, addVerdict}
 use Rattle.pixels.proofs.Judging.{Kinds, kinds-passed, kinds-opens, kinds-stays, sides}
 use Rattle.pixels.proofs.judge.judge_add.Statement.{statement}
 use Rattle.pixels.proofs.judge.judge_add.Tie as tie

@@ -1,11 +1,11 @@
 -- `pixels::judge::judge_float` meets its contract: refusals 1 to 4, then what the buffers ask. Assumes nothing.
-use mathlib.Core.Path.{_≡_, refl, sym, ap, _∙_, subst}
+use mathlib.Core.Path.{sym, ap, _∙_, subst}
 use borrow.Author.Needs.{needs}
 use lib.ListN.{length}
 use Rattle.answers.specs.declared.Answer.{Answer}
 use Rattle.answers.specs.Answers.{done}
 use Rattle.tables.specs.declared.size.Size.{Size}
-use Rattle.pixels.specs.Calls.{Sides, kinds, numbers, onBuffers, floatVerdict}
+use Rattle.pixels.specs.Calls.{Sides, numbers, onBuffers, floatVerdict}
 use Rattle.pixels.proofs.Judging.{Kinds, kinds-passed, kinds-opens, kinds-stays, sides}
 use Rattle.pixels.proofs.judge.judge_float.Statement.{statement}
 use Rattle.pixels.proofs.judge.judge_float.Tie as tie

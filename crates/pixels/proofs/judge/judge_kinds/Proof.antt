@@ -1,10 +1,10 @@
 -- `pixels::judge::judge_kinds` meets its contract: each test of the chain, in its order, is the code's. Assumes nothing.
-use mathlib.Core.Path.{_≡_, refl, sym, ap, _∙_}
+use mathlib.Core.Path.{_≡_, sym, ap, _∙_}
 use borrow.Author.Needs.{needs}
 use borrow.Author.Tests.{lt-leb, le-leb, not-true, not-false}
 use native.Mathlib.Omega.{arith}
 use lib.Dec.{leb}
-use mathlib.Core.Bool.{Bool, true, false}
+use mathlib.Core.Bool.{true}
 use Rattle.tables.specs.declared.size.Size.{Size}
 use Rattle.tables.specs.Kinds.{horOf, verOf, hasKind}
 use Rattle.pixels.specs.Calls.{wOf, hOf}

@@ -1,5 +1,5 @@
 -- `pixels::judge::judge_numbers` meets its contract: the two searches, and the places that they give. Assumes nothing.
-use mathlib.Core.Path.{_≡_, refl, sym, ap, _∙_, subst}
+use mathlib.Core.Path.{_≡_, sym, ap, _∙_, subst}
 use Prim.Native.Nat.{ℕ, _+_, _*_, _/_, _%_, _≤_, _<_}
 use native.Mathlib.Nat as N
 use native.Mathlib.Omega.{arith}
@@ -16,7 +16,7 @@ use Rattle.ranges.specs.Cells.{cellOk}
 use Rattle.tables.specs.Sizes.{cut, scaled}
 use Rattle.tables.proofs.Kernels.{cut-most}
 use Rattle.passes.proofs.Steps.{area}
-use Rattle.pixels.specs.Calls.{coeffOk, numbers}
+use Rattle.pixels.specs.Calls.{coeffOk}
 use Rattle.pixels.proofs.judge.judge_numbers.Statement.{statement}
 use Rattle.pixels.proofs.judge.judge_numbers.Tie as tie
 

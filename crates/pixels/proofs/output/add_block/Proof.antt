@@ -1,13 +1,8 @@
 -- `pixels::output::add_block` meets its contract: the block's shape, handed to the loop over its rows. Assumes nothing.
-use mathlib.Core.Path.{_≡_, refl, sym, ap, _∙_, subst}
-use Prim.Native.Nat.{ℕ, _<_}
+use mathlib.Core.Path.{_∙_}
 use native.Mathlib.Omega.{arith}
 use borrow.Author.Needs.{needs}
-use Rattle.whole.specs.Numbers.{highest}
 use Rattle.whole.proofs.Num.{back}
-use Rattle.tables.specs.Sizes.{cut}
-use Rattle.pixels.specs.Pixels.{repeats}
-use Rattle.pixels.specs.Rows.{Residuals}
 use Rattle.pixels.proofs.Served.{serving}
 use Rattle.pixels.proofs.output.add_block.Statement.{statement}
 use Rattle.pixels.proofs.output.add_block.Tie as tie

@@ -1,5 +1,4 @@
 -- `pixels::output::repeats_of` meets its contract: the test picks the case. Assumes nothing.
-use mathlib.Core.Path.{_≡_, refl}
 use borrow.Author.Tests.{le-leb, lt-leb}
 use Rattle.pixels.proofs.output.repeats_of.Statement.{statement}
 use Rattle.pixels.proofs.output.repeats_of.Tie as tie

@@ -1,10 +1,10 @@
 -- `pixels::output::settle` meets its contract: the step over the block's part of the work area. Assumes nothing.
 use mathlib.Core.Path.{_≡_, refl, sym, ap, _∙_, subst}
-use Prim.Native.Nat.{ℕ, _*_, _^_, _≤_, _<_}
+use Prim.Native.Nat.{_≤_}
 use native.Mathlib.Nat as N
 use native.Mathlib.Omega.{arith}
 use borrow.Author.Needs.{needs}
-use Rattle.whole.specs.Grid.{gridOf, Same, Bounded}
+use Rattle.whole.specs.Grid.{gridOf, Same}
 use Rattle.tables.specs.declared.size.Size.{Size}
 use Rattle.tables.specs.Sizes.{sizeAt, cut}
 use Rattle.passes.specs.Passes.{settledTo, swOf, shOf}

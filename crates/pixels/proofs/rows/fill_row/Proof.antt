@@ -1,10 +1,9 @@
 -- `pixels::rows::fill_row` meets its contract: after x turns the first x places hold their pixels. Assumes nothing.
-use mathlib.Core.Path.{_≡_, refl, sym, ap, _∙_, subst}
-use Prim.Native.Nat.{ℕ, _-_, _/_, _^_, _≤_, _<_}
-use native.Mathlib.Nat as N
+use mathlib.Core.Path.{_≡_, refl, ap, _∙_}
+use Prim.Native.Nat.{_-_, _/_, _^_, _<_}
 use native.Mathlib.Omega.{arith}
 use borrow.Author.Needs.{needs, scaled-fits}
-use lib.IntN.{ℤ, pos, natAbs, _+ℤ_}
+use lib.IntN.{ℤ, pos, _+ℤ_}
 use lib.ListN.{length, getD}
 use mir.Syntax.{w32}
 use mir.Val.{toZ, ofZ}
@@ -13,7 +12,7 @@ use Rattle.whole.specs.Numbers.{clamp}
 use Rattle.whole.proofs.Num.{back}
 use Rattle.whole.proofs.Sums.{within-all}
 use Rattle.whole.proofs.Fill.{Filling, fill-start, fill-more, fill-done}
-use Rattle.pixels.specs.Pixels.{isPixel, pixelF}
+use Rattle.pixels.specs.Pixels.{pixelF}
 use Rattle.pixels.proofs.Floats.{pixel-clamped}
 use Rattle.pixels.proofs.rows.fill_row.Statement.{statement}
 use Rattle.pixels.proofs.rows.fill_row.Tie as tie

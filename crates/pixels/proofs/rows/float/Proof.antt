@@ -1,5 +1,4 @@
 -- `pixels::rows::float` meets its contract: a number of 0 to 4,095 is held exactly. Assumes nothing.
-use mathlib.Core.Path.{_≡_, refl}
 use native.Mathlib.Omega.{arith}
 use lib.Dec.{T, le→leb}
 use lib.Ieee.{binary32, inFloat}

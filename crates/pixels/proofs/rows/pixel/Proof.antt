@@ -1,12 +1,11 @@
 -- `pixels::rows::pixel` meets its contract: the sum, read back, and its clamp. Assumes nothing.
-use mathlib.Core.Path.{_≡_, refl, ap, _∙_}
+use mathlib.Core.Path.{_∙_}
 use borrow.Author.Needs.{needs}
 use lib.Dec.{lit<}
-use lib.IntN.{pos, _+ℤ_}
+use lib.IntN.{_+ℤ_}
 use mir.Syntax.{w32}
 use mir.Val.{toZ, ofZ}
 use mir.ValLaws.{toZ-ofZ}
-use Rattle.whole.specs.Numbers.{clamp}
 use Rattle.whole.proofs.Num.{Num, given, plus, ask, read, back}
 use Rattle.pixels.proofs.rows.pixel.Statement.{statement}
 use Rattle.pixels.proofs.rows.pixel.Tie as tie

@@ -1,12 +1,11 @@
 -- `pixels::samples::first_sample` meets its contract: a row that fails is searched for; where none fails, every sample is in range. Assumes nothing.
-use mathlib.Core.Path.{_≡_, refl, sym, ap, _∙_, subst}
+use mathlib.Core.Path.{_≡_, sym, _∙_, subst}
 use mathlib.Core.Bool.{true}
 use mathlib.Core.List.{List}
 use Prim.Native.Nat.{ℕ, _+_, _*_, _-_, _/_, _%_, _≤_, _<_, zero-le}
 use native.Mathlib.Decide.{ℕ-discrete}
 use native.Mathlib.Nat as N
 use native.Mathlib.Omega.{arith}
-use borrow.Author.Needs.{needs}
 use lib.Arith.{lt-of-le-ne}
 use lib.IntN.{ℤ, pos}
 use lib.ListN.{length, getD}
@@ -14,7 +13,7 @@ use mir.Syntax.{w32}
 use mir.Val.{toZ, ofZ}
 use mir.ValLaws.{toZ-ofZ}
 use Rattle.whole.specs.Numbers.{inRange}
-use Rattle.whole.specs.Search.{seek, cellAt}
+use Rattle.whole.specs.Search.{cellAt}
 use Rattle.whole.proofs.Search.{seek-all}
 use Rattle.whole.proofs.Cells.{row-of, column-of}
 use Rattle.whole.proofs.Lent.{lent-at, lent-count}

@@ -1,6 +1,6 @@
 -- `pixels::samples::outside` meets its contract. Assumes nothing.
-use mathlib.Core.Path.{_≡_, sym, _∙_}
-use Prim.Native.Nat.{ℕ, zero-le}
+use mathlib.Core.Path.{sym, _∙_}
+use Prim.Native.Nat.{zero-le}
 use native.Mathlib.Nat as N
 use native.Mathlib.Omega.{arith}
 use borrow.Author.Needs.{needs}
