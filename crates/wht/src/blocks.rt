@@ -11,7 +11,7 @@ pub struct Block(pub Quad, pub Quad, pub Quad, pub Quad);
 
 // The forward transform of four numbers.
 fn forward4(o0: i32, o1: i32, o2: i32, o3: i32) -> Quad
-    requires { ⌜ Sized 1048576 (o0, o1, o2, o3) ⌝ }
+    requires { ⌜ Sized 2097152 (o0, o1, o2, o3) ⌝ }
     ensures { λ r. ⌜ r ≡ fore (o0, o1, o2, o3) ⌝ }
 {
     let e = (o0 + o1 + o2 - o3) >> 1;
@@ -20,7 +20,7 @@ fn forward4(o0: i32, o1: i32, o2: i32, o3: i32) -> Quad
 
 // The same of a row.
 fn forward_row(q: Quad) -> Quad
-    requires { ⌜ Sized 1048576 q ⌝ }
+    requires { ⌜ Sized 2097152 q ⌝ }
     ensures { λ r. ⌜ r ≡ fore q ⌝ }
 {
     forward4(q.0, q.1, q.2, q.3)
@@ -28,7 +28,7 @@ fn forward_row(q: Quad) -> Quad
 
 // Each row through the forward transform of four.
 fn forward_rows(m: Block) -> Block
-    requires { ⌜ Sizes 1048576 m ⌝ }
+    requires { ⌜ Sizes 2097152 m ⌝ }
     ensures { λ r. ⌜ r ≡ each fore m ⌝ }
 {
     let p = m.0;
@@ -76,7 +76,7 @@ fn swapped(m: Block) -> Block
 
 // Each row through the inverse transform of four: the forward one, with the last two numbers exchanged before and after it.
 fn inverse_rows(m: Block) -> Block
-    requires { ⌜ Sizes 1048576 m ⌝ }
+    requires { ⌜ Sizes 2097152 m ⌝ }
     ensures { λ r. ⌜ r ≡ each back m ⌝ }
 {
     let p = swapped(m);
@@ -86,7 +86,7 @@ fn inverse_rows(m: Block) -> Block
 
 // Columns, then rows.
 pub fn forward44(m: Block) -> Block
-    requires { ⌜ Sizes 524288 m ⌝ }
+    requires { ⌜ Sizes 1048576 m ⌝ }
     ensures { λ r. ⌜ r ≡ fore44 m ⌝ }
 {
     let p = turned(m);
@@ -97,7 +97,7 @@ pub fn forward44(m: Block) -> Block
 
 // Rows, then columns.
 pub fn inverse44(m: Block) -> Block
-    requires { ⌜ Sizes 524288 m ⌝ }
+    requires { ⌜ Sizes 1048576 m ⌝ }
     ensures { λ r. ⌜ r ≡ back44 m ⌝ }
 {
     let p = inverse_rows(m);

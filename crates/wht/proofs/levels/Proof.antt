@@ -12,7 +12,7 @@ loaded-requires : tie.Need-loaded-requires
 loaded-requires c κs = search needs
 
 forward44-requires : tie.Need-forward44-requires
-forward44-requires c κs = let s = c .before in subst (Sizes 524288) (sym (c .loaded .ensures)) (wider (of-list (s .args .resid .now) (s .pre .0 .small)) (lit≤ tt))
+forward44-requires c κs = let s = c .before in subst (Sizes 1048576) (sym (c .loaded .ensures)) (wider (of-list (s .args .resid .now) (s .pre .0 .small)) (lit≤ tt))
 
 stored-requires : tie.Need-stored-requires
 stored-requires c κs = search needs

@@ -12,7 +12,7 @@ loaded-requires : tie.Need-loaded-requires
 loaded-requires c κs = search needs
 
 inverse44-requires : tie.Need-inverse44-requires
-inverse44-requires c κs = let s = c .before in subst (Sizes 524288) (sym (c .loaded .ensures)) (wider (of-list (s .args .level .now) (s .pre .0 .small)) (lit≤ tt))
+inverse44-requires c κs = let s = c .before in subst (Sizes 1048576) (sym (c .loaded .ensures)) (wider (of-list (s .args .level .now) (s .pre .0 .small)) (lit≤ tt))
 
 stored-requires : tie.Need-stored-requires
 stored-requires c κs = search needs

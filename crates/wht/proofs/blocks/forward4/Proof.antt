@@ -16,11 +16,11 @@ module _ (c : tie.Start) where
   abbrev xs : List ℤ
   xs = c .args .o0 ∷ c .args .o1 ∷ c .args .o2 ∷ c .args .o3 ∷ []
 
-  room : (e : Mx) → T (safe w32 (λ _. 1048576) e) → SFits w32 (raw w32 e xs)
-  room = fits (λ _. 1048576) xs (small-at (cons (c .pre .s0) (cons (c .pre .s1) (cons (c .pre .s2) (cons (c .pre .s3) nil))))) w32
+  room : (e : Mx) → T (safe w32 (λ _. 2097152) e) → SFits w32 (raw w32 e xs)
+  room = fits (λ _. 2097152) xs (small-at (cons (c .pre .s0) (cons (c .pre .s1) (cons (c .pre .s2) (cons (c .pre .s3) nil))))) w32
 
-  is : (e : Mx) → T (safe w32 (λ _. 1048576) e) → mach w32 e xs ≡ val e xs
-  is = exact (λ _. 1048576) xs (small-at (cons (c .pre .s0) (cons (c .pre .s1) (cons (c .pre .s2) (cons (c .pre .s3) nil))))) w32
+  is : (e : Mx) → T (safe w32 (λ _. 2097152) e) → mach w32 e xs ≡ val e xs
+  is = exact (λ _. 2097152) xs (small-at (cons (c .pre .s0) (cons (c .pre .s1) (cons (c .pre .s2) (cons (c .pre .s3) nil))))) w32
 
 add-e : tie.Need-add-e
 add-e c = room c (var 0 ⊕ var 1) tt

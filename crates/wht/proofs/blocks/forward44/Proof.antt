@@ -12,7 +12,7 @@ turned-requires : tie.Need-turned-requires
 turned-requires c κs = search needs
 
 forward-rows-requires : tie.Need-forward-rows-requires
-forward-rows-requires c κs = subst (Sizes 1048576) (sym (c .turned .ensures)) (wider (turned (c .before .pre)) (lit≤ tt))
+forward-rows-requires c κs = subst (Sizes 2097152) (sym (c .turned .ensures)) (wider (turned (c .before .pre)) (lit≤ tt))
 
 turned-requires-2 : tie.Need-turned-requires-2
 turned-requires-2 c κs = search needs
@@ -21,7 +21,7 @@ forward-rows-requires-2 : tie.Need-forward-rows-requires-2
 forward-rows-requires-2 c κs =
     let c1 = c .before in
     let c2 = c1 .before in
-    subst (Sizes 1048576) (sym (c .turned2 .ensures ∙ ap turn (c1 .forward-rows .ensures ∙ ap (each fore) (c2 .turned .ensures))))
+    subst (Sizes 2097152) (sym (c .turned2 .ensures ∙ ap turn (c1 .forward-rows .ensures ∙ ap (each fore) (c2 .turned .ensures))))
     (turned (eached (turned (c2 .before .pre)) fore (λ o t. fore-size t)))
 
 returns : tie.Need-returns

@@ -16,7 +16,7 @@ turned-requires c κs = search needs
 inverse-rows-requires-2 : tie.Need-inverse-rows-requires-2
 inverse-rows-requires-2 c κs =
     let c1 = c .before in
-    subst (Sizes 1048576) (sym (c .turned .ensures ∙ ap turn (c1 .inverse-rows .ensures))) (turned (eached (c1 .before .pre) back (λ o t. back-size t)))
+    subst (Sizes 2097152) (sym (c .turned .ensures ∙ ap turn (c1 .inverse-rows .ensures))) (turned (eached (c1 .before .pre) back (λ o t. back-size t)))
 
 turned-requires-2 : tie.Need-turned-requires-2
 turned-requires-2 c κs = search needs

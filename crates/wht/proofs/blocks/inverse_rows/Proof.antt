@@ -11,7 +11,7 @@ swapped-requires : tie.Need-swapped-requires
 swapped-requires c κs = search needs
 
 forward-rows-requires : tie.Need-forward-rows-requires
-forward-rows-requires c κs = subst (Sizes 1048576) (sym (c .swapped .ensures)) (eached (c .before .pre) swap (λ o t. swap-size t))
+forward-rows-requires c κs = subst (Sizes 2097152) (sym (c .swapped .ensures)) (eached (c .before .pre) swap (λ o t. swap-size t))
 
 swapped-requires-2 : tie.Need-swapped-requires-2
 swapped-requires-2 c κs = search needs
