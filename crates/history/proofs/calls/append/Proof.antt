@@ -1,3 +1,4 @@
+-- `history::calls::append` meets its contract: the mark, the levels, the count, then the cells. Assumes nothing.
 use mathlib.Core.Path.{_≡_, ap, _∙_}
 use Prim.Native.Nat.{_+_, _*_}
 use native.Mathlib.Omega.{arith}

@@ -1,3 +1,4 @@
+-- `history::calls::drop_step` meets its contract: the step is taken out, and its cells mended from the list without it. Assumes nothing.
 use mathlib.Core.Path.{ap, _∙_}
 use Prim.Native.Nat.{_-_}
 use Rattle.remain.specs.Remaining.{marks}

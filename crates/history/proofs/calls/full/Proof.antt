@@ -1,3 +1,4 @@
+-- `history::calls::full` meets its contract: the two tests of 14. Assumes nothing.
 use mathlib.Core.Path.{_≡_, refl, sym, ap, _∙_}
 use Prim.Native.Nat.{ℕ, _≤_, _<_}
 use native.Mathlib.Omega.{arith}

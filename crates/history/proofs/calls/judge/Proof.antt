@@ -1,3 +1,4 @@
+-- `history::calls::judge` meets its contract: 8 and 10, then the answer that follows. Assumes nothing.
 use mathlib.Core.Path.{sym, ap, _∙_}
 use Rattle.answers.specs.declared.Answer.{Answer}
 use Rattle.answers.proofs.Endings.{same-number}

@@ -1,3 +1,4 @@
+-- `history::calls::step` meets its contract: the samples gain, and the step is put at the end. Assumes nothing.
 use mathlib.Core.Path.{_≡_, refl, sym, ap, _∙_, subst}
 use Prim.Native.Nat.{_+_, _*_, _≤_, _<_}
 use native.Mathlib.Omega.{arith}

@@ -1,3 +1,4 @@
+-- `remain::cells::mend` meets its contract: four searches, then four stores within the index. Assumes nothing.
 use Prim.Native.Nat.{_+_, _*_, _/_, _≤_, _<_}
 use native.Mathlib.Omega.{arith}
 use lib.ListN.{set, length-set}

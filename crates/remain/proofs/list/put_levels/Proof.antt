@@ -1,3 +1,4 @@
+-- `remain::list::put_levels` meets its contract: a copy into the part that is lent. Assumes nothing.
 use mathlib.Core.Path.{ap, _∙_}
 use mathlib.Core.List.{_++_}
 use Prim.Native.Nat.{_+_, _*_, _-_}

@@ -1,3 +1,4 @@
+-- `remain::list::put_mark` meets its contract: four stores. Assumes nothing.
 use native.Mathlib.Omega.{arith}
 use lib.ListN.{length-set}
 use borrow.Author.Needs.{needs}

@@ -1,3 +1,4 @@
+-- `remain::list::remove` meets its contract: both lists slide, and the count falls. Assumes nothing.
 use mathlib.Core.Path.{ap, _∙_}
 use Prim.Native.Nat.{_+_, _*_, _-_}
 use lib.ListN.{set}

@@ -1,3 +1,4 @@
+-- `remain::list::slide_levels` meets its contract: the loop moves one number after another down. Assumes nothing.
 use native.Mathlib.Omega.{arith}
 use Prim.Native.Nat.{_-_}
 use lib.Dec.{lit<}

@@ -1,3 +1,4 @@
+-- `remain::list::slide_steps` meets its contract: the loop moves one number after another down. Assumes nothing.
 use mathlib.Core.Path.{refl}
 use native.Mathlib.Omega.{arith}
 use Prim.Native.Nat.{_-_}

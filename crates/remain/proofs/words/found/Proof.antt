@@ -1,3 +1,4 @@
+-- `remain::words::found` meets its contract: the loop is a search from the end. Assumes nothing.
 use mathlib.Core.Path.{_≡_, refl, sym, ap, _∙_}
 use native.Mathlib.Omega.{arith}
 use Prim.Native.Nat.{_≤_}

@@ -1,3 +1,4 @@
+-- `remain::words::last_touch` meets its contract: the number at the place that the search finds. Assumes nothing.
 use mathlib.Core.Path.{sym, ap, _∙_}
 use native.Mathlib.Omega.{arith}
 use Rattle.remain.specs.Touch.{touches}

@@ -1,3 +1,4 @@
+-- `remain::words::near` meets its contract: the test by a difference is the test by sums. Assumes nothing.
 use Rattle.remain.proofs.Sharing.{near-up, near-down}
 use borrow.Author.Needs.{needs}
 use Rattle.remain.proofs.words.near.Statement.{statement}

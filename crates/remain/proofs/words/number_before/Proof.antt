@@ -1,3 +1,4 @@
+-- `remain::words::number_before` meets its contract: one read, or none. Assumes nothing.
 use Rattle.remain.proofs.Finds.{number-is}
 use borrow.Author.Needs.{needs}
 use Rattle.remain.proofs.words.number_before.Statement.{statement}

@@ -1,3 +1,4 @@
+-- `remain::words::overlapped` meets its contract: a step is free where the latest that shares a sample with it is itself. Assumes nothing.
 use mathlib.Core.Path.{_≡_, sym, _∙_}
 use borrow.Author.Tests.{eq-eqb, ne-eqb}
 use Rattle.answers.specs.Answers.{done, refused}

@@ -1,3 +1,4 @@
+-- `remain::words::shares` meets its contract: the two tests. Assumes nothing.
 use mathlib.Core.Path.{sym, _∙_}
 use borrow.Author.Needs.{needs}
 use Rattle.remain.proofs.words.shares.Statement.{statement}

@@ -1,3 +1,4 @@
+-- `remain::words::touching` meets its contract: the test on two words of the list. Assumes nothing.
 use mathlib.Core.Path.{ap, _∙_}
 use Rattle.remain.specs.Touch.{shares}
 use Rattle.remain.specs.Remaining.{word}

@@ -1,3 +1,4 @@
+-- `remain::words::word` meets its contract: one read, which fits. Assumes nothing.
 use native.Mathlib.Omega.{arith}
 use borrow.Author.Needs.{needs}
 use Rattle.remain.proofs.words.word.Statement.{statement}
