@@ -9,6 +9,7 @@
 --     Wht        each transform undoes the other, and the difference of two blocks leads from one to the other
 --     History    stepping back, and the wanted block
 --     Remaining  a history of remaining steps in lent memory
+--     Folding    folding old steps together
 --     Av1        the older edition: two definitions agree
 --     Recursion  the recursive DCT is the flat one
 --     Worked     P1 to P12
@@ -27,6 +28,7 @@ pub mod Chroma
 pub mod Wht
 pub mod History
 pub mod Remaining
+pub mod Folding
 pub mod Av1
 pub mod Recursion
 pub mod Worked

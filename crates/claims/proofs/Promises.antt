@@ -11,6 +11,7 @@ use lib.ListN.{length}
 use Rattle.keeping.specs.Range.{area}
 use Rattle.history.specs.Calls as Remaining
 use Rattle.history.specs.Calls.{lent, withdrawVerdict, withdrawOf, rebuildOf}
+use Rattle.folding.specs.Fold.{threeOf, foldOf}
 use Rattle.av1.specs.Calls.{dctOf}
 use Rattle.av1_wht.specs.Wht.{whtOf}
 use Rattle.pixels.proofs.inv_txfm_recon_f32.Kinds as Recon
@@ -23,6 +24,7 @@ use Rattle.history.proofs.history_undo.Kinds as HistoryUndo
 use Rattle.history.proofs.history_withdraw.Kinds as HistoryWithdraw
 use Rattle.history.proofs.history_can_withdraw.Kinds as HistoryCan
 use Rattle.history.proofs.history_rebuild.Kinds as HistoryRebuild
+use Rattle.folding_code.proofs.history_fold.Kinds as HistoryFold
 use Rattle.av1.proofs.av1_inv_dct.Kinds as Av1Dct
 use Rattle.av1_wht.proofs.av1_inv_wht4x4.Kinds as Av1Wht
 use Rattle.pixels.proofs.inv_txfm_recon_f32.Reads as inv_txfm_recon_f32
@@ -47,6 +49,7 @@ use Rattle.history.proofs.history_undo.Reads as history_undo
 use Rattle.history.proofs.history_withdraw.Reads as history_withdraw
 use Rattle.history.proofs.history_can_withdraw.Reads as history_can_withdraw
 use Rattle.history.proofs.history_rebuild.Reads as history_rebuild
+use Rattle.folding_code.proofs.history_fold.Reads as history_fold
 use Rattle.av1.proofs.av1_inv_dct.Reads as av1_inv_dct
 use Rattle.av1_wht.proofs.av1_inv_wht4x4.Reads as av1_inv_wht4x4
 use Rattle.panel.proofs.panel_inv_txfm_recon_f32.Reads as panel_inv_txfm_recon_f32
@@ -71,6 +74,7 @@ use Rattle.panel.proofs.panel_history_undo.Reads as panel_history_undo
 use Rattle.panel.proofs.panel_history_withdraw.Reads as panel_history_withdraw
 use Rattle.panel.proofs.panel_history_can_withdraw.Reads as panel_history_can_withdraw
 use Rattle.panel.proofs.panel_history_rebuild.Reads as panel_history_rebuild
+use Rattle.panel.proofs.panel_history_fold.Reads as panel_history_fold
 use Rattle.panel.proofs.panel_av1_inv_dct.Reads as panel_av1_inv_dct
 use Rattle.panel.proofs.panel_av1_inv_wht4x4.Reads as panel_av1_inv_wht4x4
 use Rattle.claims.specs.Promises.{Promised}
@@ -256,6 +260,15 @@ history-rebuild-promised = (λ κs a. tt, λ κs a x left p. p)
 
 pub panel-history-rebuild-promised : Promised 4 HistoryRebuild.ps HistoryRebuild.r panel_history_rebuild.Asked panel_history_rebuild.Learnt rebuilding
 panel-history-rebuild-promised = (λ κs a. tt, λ κs a x left p. p)
+
+abbrev foldingSteps : Out 4 HistoryFold.ps HistoryFold.r
+foldingSteps κs a x left = (x, threeOf (left .1 .1 .1 .1 .0 .now) (left .1 .1 .1 .1 .1 .0 .now) (left .1 .1 .1 .1 .1 .1 .0 .now)) ≡ foldOf (area (length (a .0 .now)) (a .1 .0) (a .1 .1 .0) (a .1 .1 .1 .0)) (a .1 .1 .1 .1 .0 .now) (a .1 .1 .1 .1 .1 .0 .now) (a .1 .1 .1 .1 .1 .1 .0 .now)
+
+pub history-fold-promised : Promised 4 HistoryFold.ps HistoryFold.r history_fold.Asked history_fold.Learnt foldingSteps
+history-fold-promised = (λ κs a. tt, λ κs a x left p. p)
+
+pub panel-history-fold-promised : Promised 4 HistoryFold.ps HistoryFold.r panel_history_fold.Asked panel_history_fold.Learnt foldingSteps
+panel-history-fold-promised = (λ κs a. tt, λ κs a x left p. p)
 
 -- ---- AV1: length, bits, list; bits, list
 abbrev dct : Out 1 Av1Dct.ps Av1Dct.r

@@ -1,5 +1,7 @@
 -- A history of remaining steps in lent memory, from document 02, section 9. `Reached a base m`: the calls, taken or refused, with one stride, width and
 -- rows, have led from an empty history with index all 0 on the plane base to the slices m, nothing else writing to them. Assumes nothing.
+--     every-history        such a history is good: in range, the plane is what its steps leave, the index is what they say (Folding: with folds among the calls too)
+-- Of every good history:
 --     index-is-the-list    the index is what the list of remaining steps says
 --     rebuild-agrees       a rebuild is accepted and gives the same slice
 --     plane-replayed       the plane is the remaining steps replayed from the first plane, each of them taken
@@ -40,10 +42,10 @@ use Rattle.reached.proofs.Blocks.{blocks-apart, blocks-meet}
 use Rattle.reached.proofs.Wanted.{step-alone, exists, unique, none}
 use Rattle.claims.specs.Outcomes.{Keeps}
 
-module _ (a : Area) (base : List ℤ) (m : Lent) (h : Reached a base m) where
-  good : Good a base m
-  good = reached-good a base m h
+pub every-history : (a : Area) (base : List ℤ) (m : Lent) → Reached a base m → Good a base m
+every-history = reached-good
 
+module _ (a : Area) (base : List ℤ) (m : Lent) (good : Good a base m) where
   abbrev list : ℕ
   list = count (m .steps)
 

@@ -11,7 +11,7 @@ ghost use Rattle.remain.specs.Remaining.{count, word, levelsAt, numberBefore, e
 ghost use Rattle.remain.specs.Touch.{across, mended};
 ghost use Rattle.remain.specs.Without.{stepsWithout, levelsWithout};
 ghost use Rattle.keeping.specs.Range.{area, frontOf};
-ghost use Rattle.history.specs.Calls.{lent, room, andThen, undoing, stepSamples, stepped, takenOut};
+ghost use Rattle.history.specs.Calls.{lent, room, andThen, undoing, stepSamples, stepped, takenOut, losses as Calls·losses};
 ghost use Rattle.history.specs.Bounds.{Writable, Undoable};
 use answers::Answer;
 use remain::cells;

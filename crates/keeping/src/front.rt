@@ -7,6 +7,7 @@ ghost use lib.ListN.{length};
 ghost use Rattle.whole.specs.Search.{seek};
 ghost use Rattle.answers.specs.Answers.{done};
 ghost use Rattle.keeping.specs.Range.{area, markOk, entryOk, kept, frontOf};
+ghost use Rattle.keeping.specs.Range.{shaped as Range·shaped, stands as Range·stands, sound as Range·sound};
 use answers::Answer;
 use lossless::front::between;
 use remain::words::number_before;

@@ -15,6 +15,7 @@ use Rattle.history.proofs.history_undo.Kinds as HistoryUndo
 use Rattle.history.proofs.history_withdraw.Kinds as HistoryWithdraw
 use Rattle.history.proofs.history_can_withdraw.Kinds as HistoryCan
 use Rattle.history.proofs.history_rebuild.Kinds as HistoryRebuild
+use Rattle.folding_code.proofs.history_fold.Kinds as HistoryFold
 use Rattle.av1.proofs.av1_inv_dct.Kinds as Av1Dct
 use Rattle.av1_wht.proofs.av1_inv_wht4x4.Kinds as Av1Wht
 use Rattle.pixels.proofs.inv_txfm_recon_f32.Reads as inv_txfm_recon_f32
@@ -39,6 +40,7 @@ use Rattle.history.proofs.history_undo.Reads as history_undo
 use Rattle.history.proofs.history_withdraw.Reads as history_withdraw
 use Rattle.history.proofs.history_can_withdraw.Reads as history_can_withdraw
 use Rattle.history.proofs.history_rebuild.Reads as history_rebuild
+use Rattle.folding_code.proofs.history_fold.Reads as history_fold
 use Rattle.av1.proofs.av1_inv_dct.Reads as av1_inv_dct
 use Rattle.av1_wht.proofs.av1_inv_wht4x4.Reads as av1_inv_wht4x4
 use Rattle.panel.proofs.panel_inv_txfm_recon_f32.Reads as panel_inv_txfm_recon_f32
@@ -63,6 +65,7 @@ use Rattle.panel.proofs.panel_history_undo.Reads as panel_history_undo
 use Rattle.panel.proofs.panel_history_withdraw.Reads as panel_history_withdraw
 use Rattle.panel.proofs.panel_history_can_withdraw.Reads as panel_history_can_withdraw
 use Rattle.panel.proofs.panel_history_rebuild.Reads as panel_history_rebuild
+use Rattle.panel.proofs.panel_history_fold.Reads as panel_history_fold
 use Rattle.panel.proofs.panel_av1_inv_dct.Reads as panel_av1_inv_dct
 use Rattle.panel.proofs.panel_av1_inv_wht4x4.Reads as panel_av1_inv_wht4x4
 
@@ -137,6 +140,9 @@ history-can-withdraw-wrapped = (λ κs a. tt, λ κs a x left p. p)
 
 pub history-rebuild-wrapped : Wraps 4 HistoryRebuild.ps HistoryRebuild.r panel_history_rebuild.Asked panel_history_rebuild.Learnt history_rebuild.Learnt
 history-rebuild-wrapped = (λ κs a. tt, λ κs a x left p. p)
+
+pub history-fold-wrapped : Wraps 4 HistoryFold.ps HistoryFold.r panel_history_fold.Asked panel_history_fold.Learnt history_fold.Learnt
+history-fold-wrapped = (λ κs a. tt, λ κs a x left p. p)
 
 pub av1-inv-dct-wrapped : Wraps 1 Av1Dct.ps Av1Dct.r panel_av1_inv_dct.Asked panel_av1_inv_dct.Learnt av1_inv_dct.Learnt
 av1-inv-dct-wrapped = (λ κs a. tt, λ κs a x left p. p)

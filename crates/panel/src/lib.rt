@@ -9,6 +9,7 @@ ghost use lib.ListN.{length};
 ghost use Rattle.keeping.specs.Range.{area};
 ghost use Rattle.history.specs.Calls as Remaining;
 ghost use Rattle.history.specs.Calls.{lent, withdrawVerdict, withdrawOf, rebuildOf};
+ghost use Rattle.folding.specs.Fold.{threeOf, foldOf};
 ghost use Rattle.av1.specs.Calls.{dctOf};
 ghost use Rattle.av1_wht.specs.Wht.{whtOf};
 use answers::Answer;
@@ -354,6 +355,23 @@ pub extern "C" fn panel_history_rebuild(
     ensures { λ r. ⌜ (r, now (index .exit)) ≡ rebuildOf (area (length (now (plane .entry))) stride width rows) (now (steps .entry)) (now (levels .entry)) (now (index .entry)) ⌝ }
 {
     history::history_rebuild(plane, stride, width, rows, steps, levels, index)
+}
+
+// Pairs of remaining steps on one block folded together, until none is left.
+#[no_mangle]
+pub extern "C" fn panel_history_fold(
+    plane: &[i32],
+    stride: usize,
+    width: usize,
+    rows: usize,
+    steps: &mut [u32],
+    levels: &mut [i32],
+    index: &mut [u32],
+) -> Answer
+    ensures { λ r. ⌜ (r, threeOf (now (steps .exit)) (now (levels .exit)) (now (index .exit)))
+        ≡ foldOf (area (length (now (plane .entry))) stride width rows) (now (steps .entry)) (now (levels .entry)) (now (index .entry)) ⌝ }
+{
+    folding_code::history_fold(plane, stride, width, rows, steps, levels, index)
 }
 
 // The inverse DCT of AV1, in its place.

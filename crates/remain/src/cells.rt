@@ -3,7 +3,7 @@ ghost use mathlib.Core.Path.{_≡_};
 ghost use Prim.Native.Nat.{_+_, _*_, _/_, _≤_, _<_};
 ghost use lib.ListN.{length};
 ghost use Rattle.whole.specs.Sums.{tab};
-ghost use Rattle.remain.specs.Remaining.{count, marks};
+ghost use Rattle.remain.specs.Remaining.{count, marks, word as Remaining·word};
 ghost use Rattle.remain.specs.Touch.{across, mended, indexOf};
 ghost use Rattle.remain.specs.Bounds.{Lying};
 use crate::words::last_touch;

@@ -5,7 +5,9 @@ ghost use Prim.Native.Nat.{_+_, _*_, _≤_, _<_};
 ghost use lib.ListN.{length, getD};
 ghost use Rattle.answers.specs.Answers.{done, refused, unless};
 ghost use Rattle.remain.specs.Remaining.{count, markAt, marks, numberBefore};
+ghost use Rattle.remain.specs.Remaining.{found as Remaining·found};
 ghost use Rattle.remain.specs.Touch.{lastTouch, touches};
+ghost use Rattle.remain.specs.Touch.{near as Touch·near, shares as Touch·shares, latest as Touch·latest};
 ghost use Rattle.remain.specs.Touch.{free};
 use answers::Answer;
 
