@@ -290,6 +290,9 @@ class Remaining:
         present = [self.plane[at] for at in model.places(self.stride, row, column)]
         wanted = [min(max(p + rng.randint(-9, 9), 0), 255) for p in present] if rng.randrange(2) else samples(rng, 16, 8)
         level = model.forward([b - a for a, b in zip(present, wanted)])
+        if self.remaining() and rng.randrange(5) == 0:
+            _, depth, row, column, old = rng.choice(self.remaining())
+            level = model.forward([-residual for residual in model.inverse(old)])
         if rng.randrange(6) == 0:
             level[rng.randrange(16)] += rng.choice((1, -300, 9000))
         return Case(28, [depth, self.stride, self.width, self.rows, row, column], [level, self.plane, *self.memory])

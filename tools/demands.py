@@ -332,8 +332,67 @@ def history_numbers():
     yield Demand("undo of 4,096", remembered(29, *full))
 
 
+# Folding: document 02, section 10.
+
+
+def behind(before, after, index, width=8, rows=8):
+    """The memory of a list that was folded from a longer one: what stood behind it stays."""
+    old, new = memory(*before, width=width, rows=rows), memory(*after)
+    count = len(after)
+    return [new[0][: 1 + 4 * count] + old[0][1 + 4 * count :], new[1][: 16 * count] + old[1][16 * count :], list(index)]
+
+
+def of_residual(*residual):
+    return model.forward([*residual, *[0] * (16 - len(residual))])
+
+
+def folds():
+    """Lists before and after, with the index that the list after has, at 8 by 8."""
+    up, down, two = UP, [-4] + [0] * 15, [8] + [0] * 15
+    at = lambda number, row, column, levels, depth=8: (number, depth, row, column, levels)
+    yield "nothing", (), (), [0] * 4
+    yield "one step", [at(7, 4, 0, up)], [at(1, 4, 0, up)], [0, 0, 1, 0]
+    yield "a pair", [at(2, 0, 0, up), at(9, 0, 0, up)], [at(1, 0, 0, two)], [1, 0, 0, 0]
+    yield "three", [at(n, 1, 1, up) for n in (1, 2, 3)], [at(1, 1, 1, [12] + [0] * 15)], [1] * 4
+    yield "a pair of zero sum", [at(2, 0, 0, up), at(9, 0, 0, down)], [], [0] * 4
+    yield "up, down, up", [at(1, 0, 0, up), at(2, 0, 0, down), at(3, 0, 0, up)], [at(1, 0, 0, up)], [1, 0, 0, 0]
+    yield "two depths", [at(4, 0, 0, up), at(5, 0, 0, up, 9)], [at(1, 0, 0, up), at(2, 0, 0, up, 9)], [2, 0, 0, 0]
+    yield "two blocks", [at(4, 0, 0, up), at(5, 0, 1, up)], [at(1, 0, 0, up), at(2, 0, 1, up)], [2, 2, 0, 0]
+    beside, over = at(5, 4, 4, up), at(5, 3, 3, up)
+    pair = at(4, 0, 0, up), at(6, 0, 0, up)
+    yield "a step beside between", [pair[0], beside, pair[1]], [at(1, 0, 0, two), at(2, 4, 4, up)], [1, 0, 0, 2]
+    three = [at(1, 0, 0, up), at(2, 3, 3, up), at(3, 0, 0, up)]
+    yield "a step over it between", [pair[0], over, pair[1]], three, [3, 2, 2, 2]
+    apart = [pair[0], over, at(7, 3, 3, down), at(8, 0, 0, up)]
+    yield "a pair that a dropped pair was over", apart, [at(1, 0, 0, two)], [1, 0, 0, 0]
+    wild, tame = at(4, 0, 0, [262_144] + [0] * 15), at(5, 4, 4, up)
+    yield "absurd levels alone", [wild, tame], [at(1, 0, 0, wild[4]), at(2, 4, 4, up)], [1, 0, 0, 2]
+    far = [at(4, 0, 0, of_residual(60_000)), at(5, 0, 0, of_residual(-59_999))]
+    yield "absurd levels that sum to little", far, [at(1, 0, 0, of_residual(1))], [1, 0, 0, 0]
+    for depth, top in ((8, 255), (10, 1023), (12, 4095)):
+        for sign in (1, -1):
+            most = [at(4, 0, 0, of_residual(0, sign * (top - 5)), depth), at(5, 0, 0, of_residual(0, sign * 5), depth)]
+            yield f"a sum of {sign * top} at depth {depth}", most, [at(1, 0, 0, of_residual(0, sign * top), depth)], [1, 0, 0, 0]
+
+
+def history_folds():
+    for label, before, after, index in folds():
+        yield Demand(label, remembered(33, *before, index=[9] * 4), after=behind(before, after, index))
+        whole = [(number, *entry[1:]) for number, entry in enumerate(after, 1)]
+        yield Demand(f"{label}, again", remembered(33, *whole, index=index), after=memory(*whole, index=index))
+    many = lambda *residuals, depth=8: remembered(33, *((n, depth, 0, 0, of_residual(r)) for n, r in enumerate(residuals, 1)))
+    for depth, top in ((8, 255), (10, 1023), (12, 4095)):
+        for sign in (1, -1):
+            yield Demand(f"a sum of {sign * (top + 1)}", many(sign * (top - 5), sign * 6, depth=depth), 12)
+    yield Demand("a sum that the next step would bring back", many(200, 100, -100), 12)
+    yield Demand("the same in another order", many(100, -100, 200))
+    yield Demand("A, B, -B, A", many(150, 100, -100, 150), 12)
+    yield Demand("samples are not read", remembered(33, (1, 8, 0, 0, UP), plane=[-1] * 64))
+
+
 def history():
-    sections = history_steps, history_undos, history_withdrawals, history_rebuilds, history_glasses, history_memories, history_numbers
+    sections = history_steps, history_undos, history_withdrawals, history_rebuilds, history_glasses, history_memories
+    sections += history_numbers, history_folds
     return [demand for section in sections for demand in section()]
 
 

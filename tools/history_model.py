@@ -1,4 +1,4 @@
-"""The history of steps that remain, from document 02, section 9: the calls 28 to 32 of the case stream.
+"""The history of steps that remain, from document 02, sections 9 and 10: the calls 28 to 33 of the case stream.
 
 Lists in lent memory: steps[0] is the count, entry i has its number, depth, row and column from place 1 + 4 * i on, and its
 sixteen levels from place 16 * i on. What a step alone does is lossless_model.py's; here stands what the history adds.
@@ -209,4 +209,55 @@ def history_rebuild(stride, width, rows, plane, steps, levels, index):
     verdict = next(rebuild_refusals(stride, width, rows, plane, steps, levels, index), DONE)
     if verdict == DONE:
         index[:] = index_of(width, rows, entries(steps, levels))
+    return verdict
+
+
+# Folding: document 02, section 10, by its own words.
+
+
+def pair_in(remaining):
+    """The pair whose later step stands earliest, by the places of its two steps, or None."""
+    for j, later in enumerate(remaining):
+        for i in reversed(range(j)):
+            if share(remaining[i], later):
+                if remaining[i][1:4] == later[1:4]:
+                    return i, j
+                break
+    return None
+
+
+def summed(one, other):
+    return [a + b for a, b in zip(lossless_model.inverse(one.levels), lossless_model.inverse(other.levels))]
+
+
+def folded(remaining):
+    """The list with no pair left, numbered from 1 on; None where a summed residual is too large."""
+    remaining = list(remaining)
+    while (pair := pair_in(remaining)) is not None:
+        i, j = pair
+        residual = summed(remaining[i], remaining[j])
+        if max(map(abs, residual)) > 2 ** remaining[i].depth - 1:
+            return None
+        del remaining[j]
+        if any(residual):
+            remaining[i] = remaining[i]._replace(levels=lossless_model.forward(residual))
+        else:
+            del remaining[i]
+    return [entry._replace(number=number) for number, entry in enumerate(remaining, 1)]
+
+
+def fold_refusals(stride, width, rows, plane, steps, levels, index):
+    yield from rebuild_refusals(stride, width, rows, plane, steps, levels, index)
+    if folded(entries(steps, levels)) is None:
+        yield Answer(12)
+
+
+def history_fold(stride, width, rows, plane, steps, levels, index):
+    verdict = next(fold_refusals(stride, width, rows, plane, steps, levels, index), DONE)
+    if verdict == DONE:
+        remaining = folded(entries(steps, levels))
+        for i, entry in enumerate(remaining):
+            write(steps, levels, i, entry)
+        steps[0] = len(remaining)
+        index[:] = index_of(width, rows, remaining)
     return verdict

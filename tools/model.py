@@ -288,6 +288,7 @@ CALLS = {
     30: history_model.history_withdraw,
     31: history_model.history_can_withdraw,
     32: history_model.history_rebuild,
+    33: history_model.history_fold,
     34: older(av1_model.dct),
     35: older(av1_model.wht),
 }

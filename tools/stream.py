@@ -71,6 +71,7 @@ CALLS = {
     30: _history("history_withdraw", (*_GLASS, "number"), (), ("plane", *_MEMORY)),
     31: _history("history_can_withdraw", (*_GLASS, "number"), (), ()),
     32: _history("history_rebuild", _GLASS, (), ("index",)),
+    33: _history("history_fold", _GLASS, (), _MEMORY),
     34: Call("av1_inv_dct", "av1 dct", ("length", "bits"), ("list",), (0,)),
     35: Call("av1_inv_wht4x4", "av1 wht", ("bits",), ("list",), (0,)),
 }
