@@ -454,6 +454,11 @@ static panel_answer kept_rebuild(struct kept_arguments a) {
                                  a.levels_len, kept.index, a.index_len);
 }
 
+static panel_answer kept_fold(struct kept_arguments a) {
+    return panel_history_fold(kept.plane, a.plane_len, a.stride, a.width, a.rows, kept.steps, a.steps_len, kept.levels,
+                              a.levels_len, kept.index, a.index_len);
+}
+
 typedef panel_answer kept_call(struct kept_arguments);
 
 static void expect_kept(panel_answer answer, uint32_t number, uint32_t slice, size_t place, const char *what) {
@@ -518,8 +523,35 @@ static void kept_session(void) {
     expect_kept(kept_undo(a), 13, 0, 0, "nothing to undo");
 }
 
+/* Two steps on one block with one beside between them: their levels are 4 and `level`, in a list that begins at number 3. */
+static void two_on_a_block(int32_t level) {
+    forget();
+    expect_entry(0, 3, 0, 0), expect_entry(1, 5, 4, 4), expect_entry(2, 9, 0, 0);
+    was.levels[32] = level;
+    was.steps[0] = 3;
+    kept = was;
+}
+
+static void kept_folds(void) {
+    struct kept_arguments a = kept_usual;
+    forget();
+    expect_kept(kept_fold(a), 0, 0, 0, "nothing folded");
+    two_on_a_block(4);
+    expect_entry(0, 1, 0, 0), expect_entry(1, 2, 4, 4), expect_index(1, 0, 0, 2), was.steps[0] = 2, was.levels[0] = 8;
+    expect_kept(kept_fold(a), 0, 0, 0, "a pair folded");
+    expect_kept(kept_fold(a), 0, 0, 0, "folded again");
+    two_on_a_block(-4);
+    expect_entry(0, 1, 4, 4), expect_index(0, 0, 0, 1), was.steps[0] = 1;
+    expect_kept(kept_fold(a), 0, 0, 0, "a pair that sums to zero");
+    two_on_a_block(4 * 254);
+    expect_entry(0, 1, 0, 0), expect_entry(1, 2, 4, 4), expect_index(1, 0, 0, 2), was.steps[0] = 2, was.levels[0] = 4 * 255;
+    expect_kept(kept_fold(a), 0, 0, 0, "a sum of 255");
+    two_on_a_block(4 * 255);
+    expect_kept(kept_fold(a), 12, 0, 0, "a sum of 256");
+}
+
 static void kept_refusals(void) {
-    kept_call *const calls[] = {kept_step, kept_undo, kept_withdraw, kept_can_withdraw, kept_rebuild};
+    kept_call *const calls[] = {kept_step, kept_undo, kept_withdraw, kept_can_withdraw, kept_rebuild, kept_fold};
     struct kept_arguments a;
     forget();
 #define WITH(field, value, number, slice, what) \
@@ -733,6 +765,7 @@ int main(void) {
     narrow(panel_lossless_undo, "panel_lossless_undo", -1);
     kept_session();
     kept_refusals();
+    kept_folds();
     older_calls();
     longest_plane();
     sentences(panel_refusal_words, "panel_refusal_words", 15);
