@@ -1,15 +1,23 @@
 -- What holds of every history that calls have led to. Assumes nothing.
 --     rebuild-same      a rebuild is accepted and gives the same index
 --     reached-good      in range, the plane is the remaining steps replayed from the first one, each of them taken, and the index is what the list says
+--     undo-steps, undo-levels     an undo only lowers the count: of the list nothing else is written
 --     can-withdraw-is   the question whether a step may be withdrawn is answered as the withdrawal is
 use mathlib.Core.Path.{_≡_, refl, sym, ap, _∙_, subst}
+use mathlib.Core.Bool.{Bool, true, false, _&&_, cond}
 use mathlib.Core.List.{List}
-use Prim.Native.Nat.{ℕ}
-use lib.IntN.{ℤ}
+use Prim.Native.Nat.{ℕ, _+_, _*_, _-_}
+use native.Mathlib.Nat.{not-le-of-lt}
+use borrow.Author.Tests.{leb-true, ltb-true}
+use lib.Dec.{leb, ltb}
+use lib.IntN.{ℤ, pos}
+use lib.ListN.{length, getD, set}
 use Rattle.answers.specs.declared.Answer.{Answer}
 use Rattle.answers.specs.Answers.{done, ends}
+use Rattle.whole.proofs.Fill.{tab-same, tab-list}
 use Rattle.remain.specs.Remaining.{count, marks}
 use Rattle.remain.specs.Touch.{indexOf}
+use Rattle.remain.specs.Without.{slid, stepsWithout, levelsWithout}
 use Rattle.keeping.specs.Range.{Area}
 use Rattle.history.specs.Calls as C
 use Rattle.history.specs.Calls.{Lent, lent, withdrawVerdict}
@@ -35,3 +43,20 @@ reached-good a base m (rebuilt {m = n} h) =
 pub can-withdraw-is : (a : Area) (q : ℕ) (m : Lent) → C.withdrawOf a q m .0 ≡ withdrawVerdict a q m
 unfolding C.withdrawOf
 can-withdraw-is a q m = refl
+
+-- nothing moves down over an empty range
+slid-none : {A : Type 0} (z : A) (a n : ℕ) (l : List A) → slid z a a n l ≡ l
+unfolding slid
+slid-none z a n l =
+    tab-same (length l) (λ j. cond (leb a j && ltb j a) (getD l (j + n) z) (getD l j z)) (λ j. getD l j z) (λ j h. here j (leb a j) (ltb j a) refl refl) ∙ tab-list z l
+  where
+    here : (j : ℕ) (b c : Bool) → leb a j ≡ b → ltb j a ≡ c → cond (b && c) (getD l (j + n) z) (getD l j z) ≡ getD l j z
+    here j true true p q = absurd (not-le-of-lt (ltb-true j a q) (leb-true a j p))
+    here j true false p q = refl
+    here j false c p q = refl
+
+pub undo-steps : (s : List ℕ) → stepsWithout (count s - 1) s ≡ set s 0 (count s - 1)
+undo-steps s = ap (λ (t : List ℕ). set t 0 (count s - 1)) (slid-none 0 (4 * (count s - 1) + 1) 4 s)
+
+pub undo-levels : (n : ℕ) (l : List ℤ) → levelsWithout (n - 1) n l ≡ l
+undo-levels n l = slid-none (pos 0) (16 * (n - 1)) 16 l
