@@ -6,17 +6,16 @@
 use mathlib.Core.Path.{_≡_, refl, sym, ap, _∙_, subst}
 use mathlib.Core.Bool.{true}
 use mathlib.Core.List.{List}
-use Prim.Native.Nat.{ℕ, _^_}
+use Prim.Native.Nat.{ℕ}
 use native.Mathlib.Omega.{arith}
 use borrow.Author.Tests.{leb-true}
 use lib.IntN.{ℤ}
 use lib.ListN.{length}
-use Rattle.whole.specs.Sums.{Within}
 use Rattle.tables.specs.Sizes.{cut}
 use Rattle.tables.specs.Kinds.{hasKind}
 use Rattle.tables.specs.Dense.{multiplied, denseOf}
 use Rattle.tables.proofs.Kernels.{Length, n4, n8, n16, n32, n64, lengths}
-use Rattle.kernels.specs.Inputs.{Inputs}
+use Rattle.kernels.specs.Inputs.{Inputs, Live}
 
 module _ (xs : List ℤ) {out : List ℤ} where
   pub by-code : (n : ℕ) {code k : ℕ} → code ≡ k → out ≡ denseOf n k xs → out ≡ denseOf n code xs
@@ -28,11 +27,11 @@ module _ (xs : List ℤ) {out : List ℤ} where
   pub times-left : {n : ℕ} (factor : ℤ) → Inputs n xs → out ≡ multiplied (length xs) factor xs → out ≡ multiplied n factor xs
   times-left factor inputs p = p ∙ ap (λ n. multiplied n factor xs) (inputs .0)
 
-abbrev pub Asked : List ℤ → ℕ → ℕ → Type 0
-Asked xs n code = (hasKind n code ≡ true) × (length xs ≡ cut n) × Within (2 ^ 19) xs
+abbrev pub Asked : List ℤ → ℕ → ℕ → ℕ → Type 0
+Asked xs live n code = (hasKind n code ≡ true) × Live (cut n) live xs
 
-pub asked-at : (xs : List ℤ) (code : ℕ) {n m : ℕ} → n ≡ m → Asked xs n code → (hasKind m code ≡ true) × Inputs (cut m) xs
-asked-at xs code e a = (subst (λ (l : ℕ). hasKind l code ≡ true) e (a .0), (a .1 ∙ ap cut e, a .2))
+pub asked-at : (xs : List ℤ) (live code : ℕ) {n m : ℕ} → n ≡ m → Asked xs live n code → Asked xs live m code
+asked-at xs live code e a = subst (λ (l : ℕ). Asked xs live l code) e a
 
 pub only-64 : (n code : ℕ) → hasKind n code ≡ true → (n ≡ 4 → ⊥) → (n ≡ 8 → ⊥) → (n ≡ 16 → ⊥) → (n ≡ 32 → ⊥) → n ≡ 64
 only-64 n code k p q r s = at (lengths n code k .0) p q r s

@@ -13,7 +13,7 @@ use Rattle.tables.specs.Dct.{dct16}
 use Rattle.kernels.specs.Dct.{dctOf}
 use Rattle.kernels.proofs.dct.dct_recurse.Kinds.{ps, r}
 use Rattle.kernels.proofs.dct.dct_recurse.Reads as recurse
-use Rattle.kernels.proofs.dct.inv_dct16.Reads as flat
+use Rattle.kernels.proofs.dct.flat16.Reads as flat
 
 pub recurse-16 : (xs : List ℤ) → length xs ≡ 16 → dctOf (length xs) xs ≡ denseC 16 dct16 xs
 recurse-16 xs e = ap (λ n. dctOf n xs) e

@@ -1,5 +1,6 @@
-// Runs every kernel through `inv_tx1d`, length by length and code by code, on six lists at the ends of the range and between, and
-// writes what each leaves. The file stdout has what the unchanged Rust leaves of the same lists; tools/record-kernels writes it.
+// Runs every kernel through `inv_tx1d`, length by length and code by code, on six lists at the ends of the range and between, all of
+// their numbers live, and on one of them with every smaller count of live numbers; writes what each leaves. The file stdout has what
+// the unchanged Rust leaves of the same lists, with zeros in the place of the numbers that are not live; tools/record-kernels writes it.
 ghost use mathlib.Core.Path.{_≡_};
 ghost use mathlib.Core.Bool.{true};
 ghost use Prim.Native.Nat.{ℕ, _^_, _≤_, _<_};
@@ -47,16 +48,16 @@ fn fill(c: &mut [i32], p: usize)
     }
 }
 
-// What the kernel of length n and kind code leaves of list p.
-fn run(c: &mut [i32], n: usize, code: usize, p: usize)
-    requires { ⌜ (hasKind n code ≡ true) × (length (now c) ≡ cut n) ⌝ }
+// What the kernel of length n and kind code leaves of the first live numbers of list p.
+fn run(c: &mut [i32], n: usize, code: usize, p: usize, live: usize)
+    requires { ⌜ (hasKind n code ≡ true) × (length (now c) ≡ cut n) × (live ≤ cut n) ⌝ }
 {
     fill(c, p);
-    inv_tx1d(c, n, code);
+    inv_tx1d(c, n, code, live);
     line(c);
 }
 
-// All lists.
+// All lists, all of their numbers live.
 fn lists(n: usize, code: usize)
     requires { ⌜ hasKind n code ≡ true ⌝ }
 {
@@ -65,8 +66,22 @@ fn lists(n: usize, code: usize)
     let part = &mut c[..m];
     let mut p = 0;
     while p < 6 {
-        run(part, n, code, p);
+        run(part, n, code, p, m);
         p += 1;
+    }
+}
+
+// The last list, with every smaller count of live numbers.
+fn counts(n: usize, code: usize)
+    requires { ⌜ hasKind n code ≡ true ⌝ }
+{
+    let m = cut_of(n);
+    let mut c = [0i32; 32];
+    let part = &mut c[..m];
+    let mut live = 0;
+    while live < m {
+        run(part, n, code, 5, live);
+        live += 1;
     }
 }
 
@@ -77,6 +92,7 @@ fn kinds(n: usize, count: usize)
     let mut code = 0;
     while code < count {
         lists(n, code);
+        counts(n, code);
         code += 1;
     }
 }

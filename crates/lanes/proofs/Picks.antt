@@ -1,5 +1,5 @@
 -- The match over length and code: a kernel of a known length and code is the one that was asked for. For any record: `at r k` is number k of r. Assumes nothing.
---     pick-asks            the bound on the inputs, at the known length
+--     pick-asks            what is asked of the live inputs, at the known length
 --     pick-gives           the kernel's promise, at the length and the code that were asked for
 --     highest-code         the codes of a known length
 --     long, long-rest      a length that is neither 4, 8 nor 16; of its kinds besides the DCT there is the identity of 32
@@ -16,19 +16,22 @@ use Rattle.whole.specs.Sums.{Within}
 use Rattle.whole.specs.Lanes.{col}
 use Rattle.tables.specs.Sizes.{cut}
 use Rattle.tables.specs.Kinds.{hasKind}
-use Rattle.tables.specs.Dense.{denseOf}
+use Rattle.tables.specs.Dense.{firstOf, denseOf}
 use Rattle.tables.proofs.Kernels.{Length, n4, n8, n16, n32, n64, lengths}
 
-module _ {R : Type 0} (at : R → ℕ → ℤ) (ls : List R) where
-  pub pick-asks : {n m : ℕ} → n ≡ m → ((k : ℕ) → Within (2 ^ 19) (take (cut n) (col at k ls))) → (k : ℕ) → Within (2 ^ 19) (take (cut m) (col at k ls))
-  pick-asks e w k = subst (λ (j : ℕ). Within (2 ^ 19) (take (cut j) (col at k ls))) e (w k)
+module _ {R : Type 0} (at : R → ℕ → ℤ) (ls : List R) (live : ℕ) where
+  abbrev Asked : ℕ → Type 0
+  Asked n = (live ≤ n) × ((k : ℕ) → Within (2 ^ 19) (firstOf live (take n (col at k ls))))
+
+  pub pick-asks : {n m : ℕ} → n ≡ m → Asked (cut n) → Asked (cut m)
+  pick-asks e w = subst (λ (j : ℕ). Asked (cut j)) e w
 
   pub pick-gives : (rs : List R) {n m code d : ℕ} → n ≡ m → code ≡ d
-      → ((k : ℕ) → take (cut m) (col at k rs) ≡ denseOf m d (take (cut m) (col at k ls)))
-      → (k : ℕ) → take (cut n) (col at k rs) ≡ denseOf n code (take (cut n) (col at k ls))
+      → ((k : ℕ) → take (cut m) (col at k rs) ≡ denseOf m d (firstOf live (take (cut m) (col at k ls))))
+      → (k : ℕ) → take (cut n) (col at k rs) ≡ denseOf n code (firstOf live (take (cut n) (col at k ls)))
   pick-gives rs {n} {m} {code} {d} e f h k =
-      subst (λ (j : ℕ). take (cut j) (col at k rs) ≡ denseOf j code (take (cut j) (col at k ls))) (sym e)
-      (h k ∙ ap (λ z. denseOf m z (take (cut m) (col at k ls))) (sym f))
+      subst (λ (j : ℕ). take (cut j) (col at k rs) ≡ denseOf j code (firstOf live (take (cut j) (col at k ls)))) (sym e)
+      (h k ∙ ap (λ z. denseOf m z (firstOf live (take (cut m) (col at k ls)))) (sym f))
 
 -- ---- lengths and codes
 module _ (n code : ℕ) (h : hasKind n code ≡ true) where

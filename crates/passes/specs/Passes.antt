@@ -8,7 +8,10 @@
 --     settledTo    half of 2^shift added, divided by 2^shift, rounded down, clamped: after the rows to the same range
 --     blockOf      every row through the horizontal kernel, the step between, every column through the vertical kernel
 --     passesOf     the same for a size number and a type number
+--     Dead         no coefficient of the rows from rows on, or of the columns from cols on, is other than 0 (document 02, section 7)
+--     DeadLines, DeadFours     the same of the lines from live on, and of the places from live on in the first lines; a line is size numbers, a column or a row
 use mathlib.Core.Path.{_≡_}
+use mathlib.Core.Logic.{_⊎_}
 use mathlib.Core.Bool.{Bool, true, cond}
 use mathlib.Core.List.{List}
 use Prim.Native.Nat.{ℕ, _+_, _*_, _≤_, _<_}
@@ -56,6 +59,18 @@ scalable v = inRange (negsuc 11864549) (pos 11864549) v
 
 abbrev pub Scalable : Bool → ℕ → List ℤ → Type 0
 Scalable scale n cs = (k : ℕ) → k < n → scale ≡ true → scalable (getD cs k (pos 0)) ≡ true
+
+-- a block of which no number outside the first cols columns of the first rows rows is other than 0
+abbrev pub Dead : Bool → ℕ → ℕ → ℕ → ℕ → List ℤ → Type 0
+Dead rowwise sw sh cols rows cs = (r x : ℕ) → r < sh → x < sw → ((rows ≤ r) ⊎ (cols ≤ x)) → getD cs (numberAt rowwise sw sh r x) (pos 0) ≡ pos 0
+
+-- the lines live .. lines - 1 hold no number other than 0
+abbrev pub DeadLines : ℕ → ℕ → ℕ → List ℤ → Type 0
+DeadLines live lines size cs = (r x : ℕ) → r < size → live ≤ x → x < lines → getD cs (r + x * size) (pos 0) ≡ pos 0
+
+-- the places live .. size - 1 of the first lines hold no number other than 0
+abbrev pub DeadFours : ℕ → ℕ → ℕ → List ℤ → Type 0
+DeadFours live lines size cs = (r x : ℕ) → live ≤ r → r < size → x < lines → getD cs (r + x * size) (pos 0) ≡ pos 0
 
 -- what the passes ask of a block
 pub record Block (w h first hor ver depth : ℕ) (cs : List ℤ) : Type 0 where

@@ -16,6 +16,9 @@ loop-holds c = search needs
 lists-requires : tie.Need-lists-requires Inv-loop μ-loop
 lists-requires c κs = c .before .before .pre (c .before .loop .code) (c .loop-test .taken)
 
+counts-requires : tie.Need-counts-requires Inv-loop μ-loop
+counts-requires c κs = let l = c .before in l .before .before .pre (l .before .loop .code) (l .loop-test .taken)
+
 add-code : tie.Need-add-code Inv-loop μ-loop
 add-code c = search needs
 
@@ -31,4 +34,4 @@ returns c = search needs
 pub kinds-spec : {M : Type 1} → statement M
 kinds-spec =
     tie.close
-    (tie.spec Inv-loop μ-loop loop-holds lists-requires add-code loop-less loop-again returns)
+    (tie.spec Inv-loop μ-loop loop-holds lists-requires counts-requires add-code loop-less loop-again returns)

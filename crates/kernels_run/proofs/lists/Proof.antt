@@ -1,6 +1,7 @@
 -- `kernels_run::lists` meets the contracts of what it calls: the part that it lends keeps its length. Assumes nothing.
 use mathlib.Core.Path.{_≡_, _∙_}
 use Prim.Native.Nat.{_-_, _≤_}
+use native.Mathlib.Nat.{le-of-eq}
 use native.Mathlib.Omega.{arith}
 use borrow.Author.Needs.{needs}
 use lib.ListN.{length, length-take}
@@ -28,7 +29,7 @@ loop-holds : tie.Need-loop-holds Inv-loop μ-loop
 loop-holds c = let f = c .before in (search needs, simp length-take (omega (arith, f .cut-of .ensures, cut-most (f .before .args .n))))
 
 run-requires : tie.Need-run-requires Inv-loop μ-loop
-run-requires c κs = let l = c .before .before in (l .before .before .before .pre, l .loop .inv .1)
+run-requires c κs = let l = c .before .before in (l .before .before .before .pre, l .loop .inv .1, le-of-eq (l .before .before .cut-of .ensures))
 
 add-p : tie.Need-add-p Inv-loop μ-loop
 add-p c = search needs

@@ -5,8 +5,8 @@ use Prim.Native.Nat.{ℕ}
 use native.Mathlib.Omega.{arith}
 use lib.Dec.{lit≤}
 use Rattle.tables.specs.Sizes.{cut}
-use Rattle.tables.specs.Dense.{denseOf}
-use Rattle.lanes.specs.View.{lane, Inputs, Through}
+use Rattle.tables.specs.Dense.{denseOf, firstDense}
+use Rattle.lanes.specs.View.{lane, Live, Through}
 use Rattle.lanes.specs.declared.Lane.{Lane}
 use Rattle.lanes.proofs.Picks.{pick-asks, pick-gives, highest-code, long, long-rest}
 use Rattle.lanes.proofs.lane_tx1d.Statement.{statement}
@@ -14,50 +14,50 @@ use Rattle.lanes.proofs.lane_tx1d.Tie as tie
 
 -- what is to be shown of a kernel's result
 abbrev Right : tie.Start → List Lane → Type 0
-Right s rs = Through (cut (s .args .n)) (denseOf (s .args .n) (s .args .code)) (s .args .c) rs
+Right s rs = Through (cut (s .args .n)) (firstDense (s .args .n) (s .args .code) (s .args .live)) (s .args .c) rs
 
 -- ---- length 4
-asks4 : (c : tie.At-match-keys1) → Inputs 4 (c .before .args .c)
-asks4 c = pick-asks lane (c .before .args .c) (c .match .keys1) (c .before .pre .1)
+asks4 : (c : tie.At-match-keys1) → Live 4 (c .before .args .live) (c .before .args .c)
+asks4 c = pick-asks lane (c .before .args .c) (c .before .args .live) (c .match .keys1) (c .before .pre .1)
 
-gives4 : (c : tie.At-match-keys1) (rs : List Lane) {d : ℕ} → c .before .args .code ≡ d → Through 4 (denseOf 4 d) (c .before .args .c) rs → Right (c .before) rs
-gives4 c rs = pick-gives lane (c .before .args .c) rs (c .match .keys1)
+gives4 : (c : tie.At-match-keys1) (rs : List Lane) {d : ℕ} → c .before .args .code ≡ d → Through 4 (firstDense 4 d (c .before .args .live)) (c .before .args .c) rs → Right (c .before) rs
+gives4 c rs = pick-gives lane (c .before .args .c) (c .before .args .live) rs (c .match .keys1)
 
 rest4 : (c : tie.At-match2-rest) → c .before .before .args .code ≡ 3
 rest4 c = omega (arith, highest-code (c .before .before .args .n) (c .before .before .args .code) (c .before .before .pre .0) 4 3 (c .before .match .keys1) refl)
 
 -- ---- length 8
-asks8 : (c : tie.At-match-keys2) → Inputs 8 (c .before .args .c)
-asks8 c = pick-asks lane (c .before .args .c) (c .match .keys2) (c .before .pre .1)
+asks8 : (c : tie.At-match-keys2) → Live 8 (c .before .args .live) (c .before .args .c)
+asks8 c = pick-asks lane (c .before .args .c) (c .before .args .live) (c .match .keys2) (c .before .pre .1)
 
-gives8 : (c : tie.At-match-keys2) (rs : List Lane) {d : ℕ} → c .before .args .code ≡ d → Through 8 (denseOf 8 d) (c .before .args .c) rs → Right (c .before) rs
-gives8 c rs = pick-gives lane (c .before .args .c) rs (c .match .keys2)
+gives8 : (c : tie.At-match-keys2) (rs : List Lane) {d : ℕ} → c .before .args .code ≡ d → Through 8 (firstDense 8 d (c .before .args .live)) (c .before .args .c) rs → Right (c .before) rs
+gives8 c rs = pick-gives lane (c .before .args .c) (c .before .args .live) rs (c .match .keys2)
 
 rest8 : (c : tie.At-match3-rest) → c .before .before .args .code ≡ 5
 rest8 c = omega (arith, highest-code (c .before .before .args .n) (c .before .before .args .code) (c .before .before .pre .0) 8 5 (c .before .match .keys2) refl)
 
 -- ---- length 16
-asks16 : (c : tie.At-match-keys3) → Inputs 16 (c .before .args .c)
-asks16 c = pick-asks lane (c .before .args .c) (c .match .keys3) (c .before .pre .1)
+asks16 : (c : tie.At-match-keys3) → Live 16 (c .before .args .live) (c .before .args .c)
+asks16 c = pick-asks lane (c .before .args .c) (c .before .args .live) (c .match .keys3) (c .before .pre .1)
 
-gives16 : (c : tie.At-match-keys3) (rs : List Lane) {d : ℕ} → c .before .args .code ≡ d → Through 16 (denseOf 16 d) (c .before .args .c) rs → Right (c .before) rs
-gives16 c rs = pick-gives lane (c .before .args .c) rs (c .match .keys3)
+gives16 : (c : tie.At-match-keys3) (rs : List Lane) {d : ℕ} → c .before .args .code ≡ d → Through 16 (firstDense 16 d (c .before .args .live)) (c .before .args .c) rs → Right (c .before) rs
+gives16 c rs = pick-gives lane (c .before .args .c) (c .before .args .live) rs (c .match .keys3)
 
 rest16 : (c : tie.At-match4-rest) → c .before .before .args .code ≡ 5
 rest16 c = omega (arith, highest-code (c .before .before .args .n) (c .before .before .args .code) (c .before .before .pre .0) 16 5 (c .before .match .keys3) refl)
 
 -- ---- lengths 32 and 64
-asks32 : (c : tie.At-match-rest) → Inputs 32 (c .before .args .c)
+asks32 : (c : tie.At-match-rest) → Live 32 (c .before .args .live) (c .before .args .c)
 asks32 c =
     let s = c .before in
-    long (s .args .n) (s .args .code) (s .pre .0) (c .match .rest .0 .0 .1) (c .match .rest .0 .1) (c .match .rest .1) (λ m. Inputs (cut m) (s .args .c) → Inputs 32 (s .args .c)) (λ w. w) (λ w. w) (s .pre .1)
+    long (s .args .n) (s .args .code) (s .pre .0) (c .match .rest .0 .0 .1) (c .match .rest .0 .1) (c .match .rest .1) (λ m. Live (cut m) (s .args .live) (s .args .c) → Live 32 (s .args .live) (s .args .c)) (λ w. w) (λ w. w) (s .pre .1)
 
-gives32 : (c : tie.At-match-rest) (rs : List Lane) → c .before .args .code ≡ 0 → Through 32 (denseOf 32 0) (c .before .args .c) rs → Right (c .before) rs
+gives32 : (c : tie.At-match-rest) (rs : List Lane) → c .before .args .code ≡ 0 → Through 32 (firstDense 32 0 (c .before .args .live)) (c .before .args .c) rs → Right (c .before) rs
 unfolding denseOf
 gives32 c rs z h =
     let s = c .before in
-    long (s .args .n) (s .args .code) (s .pre .0) (c .match .rest .0 .0 .1) (c .match .rest .0 .1) (c .match .rest .1) (λ m. Through (cut m) (denseOf m (s .args .code)) (s .args .c) rs)
-    (pick-gives lane (s .args .c) rs {n = 32} refl z h) (pick-gives lane (s .args .c) rs {n = 64} refl z h)
+    long (s .args .n) (s .args .code) (s .pre .0) (c .match .rest .0 .0 .1) (c .match .rest .0 .1) (c .match .rest .1) (λ m. Through (cut m) (firstDense m (s .args .code) (s .args .live)) (s .args .c) rs)
+    (pick-gives lane (s .args .c) (s .args .live) rs {n = 32} refl z h) (pick-gives lane (s .args .c) (s .args .live) rs {n = 64} refl z h)
 
 rest32 : (c : tie.At-match5-rest) → (c .before .before .args .n ≡ 32) × (c .before .before .args .code ≡ 1)
 rest32 c =
@@ -189,7 +189,7 @@ returns-17 c = gives32 (c .before .before) (c .g-dct32 .result) (c .before .matc
 
 returns-18 : tie.Need-returns-18
 unfolding denseOf
-returns-18 c = let p = rest32 (c .before) in pick-gives lane (c .before .before .before .args .c) (c .g-id4 .result) (p .0) (p .1) (c .g-id4 .ensures)
+returns-18 c = let p = rest32 (c .before) in pick-gives lane (c .before .before .before .args .c) (c .before .before .before .args .live) (c .g-id4 .result) (p .0) (p .1) (c .g-id4 .ensures)
 
 pub lane-tx1d-spec : {M : Type 1} → statement M
 lane-tx1d-spec =

@@ -20,7 +20,7 @@ use Rattle.kernels.proofs.dct.+dct_recurse+inv_dct_combine.Lts-inv_dct_
 use Rattle.kernels.proofs.butterfly.evens.Reads as evens-reads
 use Rattle.kernels.proofs.butterfly.join.Reads as join-reads
 use Rattle.kernels.proofs.butterfly.odds.Reads as odds-reads
-use Rattle.kernels.proofs.dct.inv_dct4.Reads as inv-dct4-reads
+use Rattle.kernels.proofs.dct.four.Reads as four-reads
 use Rattle.kernels.proofs.dct.+dct_recurse+inv_dct_combine.{statement}
 use Rattle.kernels.proofs.dct.+dct_recurse+inv_dct_combine.Tie.{close}
 
@@ -77,26 +77,26 @@ half t c =
     let s = o .before .before .before in
     halved (s .pre .1 .0) (s .pre .1 .1) (c .evens .kept .0) (o .odds .ensures) (c .evens .ensures)
 
-dct-recurse-inv-dct4-requires : (t : ℕ) → dct-recurse-lts.Need-inv-dct4-requires (
-  inv-dct4-reads.Asked,
-  inv-dct4-reads.Learnt,
+dct-recurse-four-requires : (t : ℕ) → dct-recurse-lts.Need-four-requires (
+  four-reads.Asked,
+  four-reads.Learnt,
   inv-dct-combine-below t,
   inv-dct-combine.Post,
 ) (dct-recurse-at t) dct-recurse.Post
-dct-recurse-inv-dct4-requires t c κs = (c .before .match .keys1, c .before .before .pre .1 .1)
+dct-recurse-four-requires t c κs = (c .before .match .keys1, c .before .before .pre .1 .1)
 
 dct-recurse-slice-aggregate-inv-dct-combine :
     (t : ℕ) → dct-recurse-lts.Need-slice-aggregate-inv-dct-combine (
-      inv-dct4-reads.Asked,
-      inv-dct4-reads.Learnt,
+      four-reads.Asked,
+      four-reads.Learnt,
       inv-dct-combine-below t,
       inv-dct-combine.Post,
     ) (dct-recurse-at t) dct-recurse.Post
 dct-recurse-slice-aggregate-inv-dct-combine t c = refl
 
 dct-recurse-inv-dct-combine-requires : (t : ℕ) → dct-recurse-lts.Need-inv-dct-combine-requires (
-  inv-dct4-reads.Asked,
-  inv-dct4-reads.Learnt,
+  four-reads.Asked,
+  four-reads.Learnt,
   inv-dct-combine-below t,
   inv-dct-combine.Post,
 ) (dct-recurse-at t) dct-recurse.Post
@@ -106,16 +106,16 @@ dct-recurse-inv-dct-combine-requires t c κs =
 
 dct-recurse-slice-aggregate-inv-dct-combine-2 :
     (t : ℕ) → dct-recurse-lts.Need-slice-aggregate-inv-dct-combine-2 (
-      inv-dct4-reads.Asked,
-      inv-dct4-reads.Learnt,
+      four-reads.Asked,
+      four-reads.Learnt,
       inv-dct-combine-below t,
       inv-dct-combine.Post,
     ) (dct-recurse-at t) dct-recurse.Post
 dct-recurse-slice-aggregate-inv-dct-combine-2 t c = refl
 
 dct-recurse-inv-dct-combine-requires-2 : (t : ℕ) → dct-recurse-lts.Need-inv-dct-combine-requires-2 (
-  inv-dct4-reads.Asked,
-  inv-dct4-reads.Learnt,
+  four-reads.Asked,
+  four-reads.Learnt,
   inv-dct-combine-below t,
   inv-dct-combine.Post,
 ) (dct-recurse-at t) dct-recurse.Post
@@ -125,34 +125,34 @@ dct-recurse-inv-dct-combine-requires-2 t c κs =
     (omega (arith, e, m .before .pre .0), (inr (refl, refl), (e, m .before .pre .1 .1)))
 
 dct-recurse-same-length : (t : ℕ) → dct-recurse-lts.Need-same-length (
-  inv-dct4-reads.Asked,
-  inv-dct4-reads.Learnt,
+  four-reads.Asked,
+  four-reads.Learnt,
   inv-dct-combine-below t,
   inv-dct-combine.Post,
 ) (dct-recurse-at t) dct-recurse.Post
 dct-recurse-same-length t c = search needs
 
 dct-recurse-returns : (t : ℕ) → dct-recurse-lts.Need-returns (
-  inv-dct4-reads.Asked,
-  inv-dct4-reads.Learnt,
+  four-reads.Asked,
+  four-reads.Learnt,
   inv-dct-combine-below t,
   inv-dct-combine.Post,
 ) (dct-recurse-at t) dct-recurse.Post
 dct-recurse-returns t c =
     let m = c .before .before .before in
-    c .before .inv-dct4 .ensures ∙ ap (λ n. dctOf n (m .before .args .c .now)) (sym (m .match .keys1))
+    c .before .four .ensures ∙ ap (λ n. dctOf n (m .before .args .c .now)) (sym (m .match .keys1))
 
 dct-recurse-same-length-2 : (t : ℕ) → dct-recurse-lts.Need-same-length-2 (
-  inv-dct4-reads.Asked,
-  inv-dct4-reads.Learnt,
+  four-reads.Asked,
+  four-reads.Learnt,
   inv-dct-combine-below t,
   inv-dct-combine.Post,
 ) (dct-recurse-at t) dct-recurse.Post
 dct-recurse-same-length-2 t c = search needs
 
 dct-recurse-returns-2 : (t : ℕ) → dct-recurse-lts.Need-returns-2 (
-  inv-dct4-reads.Asked,
-  inv-dct4-reads.Learnt,
+  four-reads.Asked,
+  four-reads.Learnt,
   inv-dct-combine-below t,
   inv-dct-combine.Post,
 ) (dct-recurse-at t) dct-recurse.Post
@@ -161,16 +161,16 @@ dct-recurse-returns-2 t c =
     c .before .inv-dct-combine .ensures ∙ ap (λ n. dctOf n (m .before .args .c .now)) (sym (m .match .keys2))
 
 dct-recurse-same-length-3 : (t : ℕ) → dct-recurse-lts.Need-same-length-3 (
-  inv-dct4-reads.Asked,
-  inv-dct4-reads.Learnt,
+  four-reads.Asked,
+  four-reads.Learnt,
   inv-dct-combine-below t,
   inv-dct-combine.Post,
 ) (dct-recurse-at t) dct-recurse.Post
 dct-recurse-same-length-3 t c = search needs
 
 dct-recurse-returns-3 : (t : ℕ) → dct-recurse-lts.Need-returns-3 (
-  inv-dct4-reads.Asked,
-  inv-dct4-reads.Learnt,
+  four-reads.Asked,
+  four-reads.Learnt,
   inv-dct-combine-below t,
   inv-dct-combine.Post,
 ) (dct-recurse-at t) dct-recurse.Post
@@ -332,14 +332,14 @@ inv-dct-combine-returns t c =
 pub +dct-recurse+inv-dct-combine-spec : {M : Type 1} → statement M
 +dct-recurse+inv-dct-combine-spec =
     close μ-dct-recurse μ-inv-dct-combine (λ t. dct-recurse-lts.spec (
-      inv-dct4-reads.Asked,
-      inv-dct4-reads.Learnt,
+      four-reads.Asked,
+      four-reads.Learnt,
       inv-dct-combine-below t,
       inv-dct-combine.Post,
     )
     (dct-recurse-at t)
     dct-recurse.Post
-    (dct-recurse-inv-dct4-requires t)
+    (dct-recurse-four-requires t)
     (dct-recurse-slice-aggregate-inv-dct-combine t)
     (dct-recurse-inv-dct-combine-requires t)
     (dct-recurse-slice-aggregate-inv-dct-combine-2 t)

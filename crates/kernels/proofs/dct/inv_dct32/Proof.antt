@@ -1,14 +1,36 @@
--- `kernels::dct::inv_dct32` meets its contract: `dct_by` on a copy of the inputs. Assumes nothing.
-use mathlib.Core.Path.{refl}
-use mathlib.Core.Logic.{inr}
+-- `kernels::dct::inv_dct32` meets its contract: the head of the table for at most four live inputs, else the whole, the others cleared. Assumes nothing.
+use mathlib.Core.Path.{_≡_, refl, sym, ap, _∙_, subst}
+use mathlib.Core.Logic.{inl, inr}
 use borrow.Author.Needs.{needs}
-use Rattle.kernels.proofs.Levels.{dense-asks, dense-left}
+use Rattle.whole.specs.Sums.{denseC}
+use Rattle.tables.specs.Dct.{dct32}
+use Rattle.kernels.specs.Inputs.{Inputs}
 use Rattle.kernels.proofs.dct.inv_dct32.Statement.{statement}
 use Rattle.kernels.proofs.dct.inv_dct32.Tie as tie
 
+slice-aggregate-head : tie.Need-slice-aggregate-head
+slice-aggregate-head c = search needs
+
+head-requires : tie.Need-head-requires
+head-requires c κs = (inr (inr (refl, refl)), c .before .before .if1 .taken, c .before .before .before .pre)
+
+clear-requires : tie.Need-clear-requires
+clear-requires c κs = search needs
+
+flat32-requires : tie.Need-flat32-requires
+flat32-requires c κs = subst (Inputs 32) (sym (c .before .before .clear .ensures)) (c .before .before .before .before .before .pre .1)
+
+same-length : tie.Need-same-length
+same-length c = search needs
+
+returns : tie.Need-returns
+returns c = c .before .head .ensures
+
+same-length-2 : tie.Need-same-length-2
+same-length-2 c = search needs
+
+returns-2 : tie.Need-returns-2
+returns-2 c = c .before .flat32 .ensures ∙ ap (denseC 32 dct32) (c .before .before .before .before .clear .ensures)
+
 pub inv-dct32-spec : {M : Type 1} → statement M
-inv-dct32-spec =
-    tie.close
-    (tie.spec (λ c. search needs) (λ c κs. search needs) (λ c. search needs) (λ c. search needs)
-    (λ c κs. let p = c .before .before .before .before in dense-asks (inr (refl, refl)) (p .before .before .before .pre) (p .copy .ensures)) (λ c. search needs)
-    (λ c. let p = c .before .before .before .before .before .before in dense-left (inr (refl, refl)) (p .before .before .before .pre) (p .copy .ensures) (c .before .dct-by .ensures)))
+inv-dct32-spec = tie.close (tie.spec slice-aggregate-head head-requires clear-requires flat32-requires same-length returns same-length-2 returns-2)

@@ -2,6 +2,7 @@
 use mathlib.Core.Bool.{true}
 use borrow.Author.Needs.{needs}
 use lib.Dec.{lit≤}
+use Rattle.tables.specs.Dense.{firstOf}
 use Rattle.tables.specs.Dst.{ddt16}
 use Rattle.kernels.proofs.ByRows.{dst-asks, dst-left}
 use Rattle.kernels.proofs.dst.inv_flipddt16.Statement.{statement}
@@ -10,5 +11,5 @@ use Rattle.kernels.proofs.dst.inv_flipddt16.Tie as tie
 pub inv-flipddt16-spec : {M : Type 1} → statement M
 inv-flipddt16-spec =
     tie.close
-    (tie.spec (λ c. search needs) (λ c κs. let s = c .before .before in dst-asks 16 ddt16 tt (s .args .c .now) (s .pre) (lit≤ tt)) (λ c. search needs)
-    (λ c. let s = c .before .before .before .before in dst-left true 16 ddt16 (s .args .c .now) (s .pre) (c .before .inv-dst .ensures)))
+    (tie.spec (λ c. search needs) (λ c κs. let s = c .before .before in dst-asks 16 ddt16 tt (firstOf (s .args .live) (s .args .c .now)) (s .pre .1) (lit≤ tt)) (λ c. search needs)
+    (λ c. let s = c .before .before .before .before in dst-left true 16 ddt16 (firstOf (s .args .live) (s .args .c .now)) (s .pre .1) (c .before .inv-dst .ensures)))

@@ -4,7 +4,7 @@ use native.Mathlib.Omega.{arith}
 use borrow.Author.Needs.{needs}
 use borrow.Author.Tests.{leb-true}
 use lib.IntN.{pos}
-use Rattle.tables.specs.Dense.{denseOf}
+use Rattle.tables.specs.Dense.{firstOf, denseOf}
 use Rattle.kernels.proofs.ByCode.{by-code, times-left}
 use Rattle.kernels.proofs.tx1d.of_16.Statement.{statement}
 use Rattle.kernels.proofs.tx1d.of_16.Tie as tie
@@ -19,9 +19,9 @@ unfolding denseOf
 of-16-spec =
     tie.close
     (tie.spec (λ c κs. search needs) (λ c κs. search needs) (λ c κs. search needs) (λ c κs. search needs) (λ c κs. search needs) (λ c κs. search needs)
-    (λ c. search needs) (λ c. let m = c .before .before .before in by-code (m .before .args .c .now) 16 (m .match .keys1) (c .before .inv-dct16 .ensures))
-    (λ c. search needs) (λ c. let m = c .before .before .before in by-code (m .before .args .c .now) 16 (m .match .keys2) (times-left (m .before .args .c .now) (pos 256) (m .before .pre .1) (c .before .inv-identity .ensures)))
-    (λ c. search needs) (λ c. let m = c .before .before .before in by-code (m .before .args .c .now) 16 (m .match .keys3) (c .before .inv-adst16 .ensures))
-    (λ c. search needs) (λ c. let m = c .before .before .before in by-code (m .before .args .c .now) 16 (m .match .keys4) (c .before .inv-flipadst16 .ensures))
-    (λ c. search needs) (λ c. let m = c .before .before .before in by-code (m .before .args .c .now) 16 (m .match .keys5) (c .before .inv-ddt16 .ensures))
-    (λ c. search needs) (λ c. let m = c .before .before .before in by-code (m .before .args .c .now) 16 (left m) (c .before .inv-flipddt16 .ensures)))
+    (λ c. search needs) (λ c. let m = c .before .before .before in by-code (firstOf (m .before .args .live) (m .before .args .c .now)) 16 (m .match .keys1) (c .before .inv-dct16 .ensures))
+    (λ c. search needs) (λ c. let m = c .before .before .before in by-code (firstOf (m .before .args .live) (m .before .args .c .now)) 16 (m .match .keys2) (times-left (firstOf (m .before .args .live) (m .before .args .c .now)) (pos 256) (m .before .pre .1 .1) (c .before .inv-identity .ensures)))
+    (λ c. search needs) (λ c. let m = c .before .before .before in by-code (firstOf (m .before .args .live) (m .before .args .c .now)) 16 (m .match .keys3) (c .before .inv-adst16 .ensures))
+    (λ c. search needs) (λ c. let m = c .before .before .before in by-code (firstOf (m .before .args .live) (m .before .args .c .now)) 16 (m .match .keys4) (c .before .inv-flipadst16 .ensures))
+    (λ c. search needs) (λ c. let m = c .before .before .before in by-code (firstOf (m .before .args .live) (m .before .args .c .now)) 16 (m .match .keys5) (c .before .inv-ddt16 .ensures))
+    (λ c. search needs) (λ c. let m = c .before .before .before in by-code (firstOf (m .before .args .live) (m .before .args .c .now)) 16 (left m) (c .before .inv-flipddt16 .ensures)))

@@ -4,7 +4,7 @@ use native.Mathlib.Omega.{arith}
 use borrow.Author.Needs.{needs}
 use borrow.Author.Tests.{leb-true}
 use lib.IntN.{pos}
-use Rattle.tables.specs.Dense.{denseOf}
+use Rattle.tables.specs.Dense.{firstOf, denseOf}
 use Rattle.kernels.proofs.ByCode.{by-code, times-left}
 use Rattle.kernels.proofs.tx1d.of_4.Statement.{statement}
 use Rattle.kernels.proofs.tx1d.of_4.Tie as tie
@@ -19,7 +19,7 @@ unfolding denseOf
 of-4-spec =
     tie.close
     (tie.spec (λ c κs. search needs) (λ c κs. search needs) (λ c κs. search needs) (λ c κs. search needs)
-    (λ c. search needs) (λ c. let m = c .before .before .before in by-code (m .before .args .c .now) 4 (m .match .keys1) (c .before .inv-dct4 .ensures))
-    (λ c. search needs) (λ c. let m = c .before .before .before in by-code (m .before .args .c .now) 4 (m .match .keys2) (times-left (m .before .args .c .now) (pos 128) (m .before .pre .1) (c .before .inv-identity .ensures)))
-    (λ c. search needs) (λ c. let m = c .before .before .before in by-code (m .before .args .c .now) 4 (m .match .keys3) (c .before .inv-adst4 .ensures))
-    (λ c. search needs) (λ c. let m = c .before .before .before in by-code (m .before .args .c .now) 4 (left m) (c .before .inv-flipadst4 .ensures)))
+    (λ c. search needs) (λ c. let m = c .before .before .before in by-code (firstOf (m .before .args .live) (m .before .args .c .now)) 4 (m .match .keys1) (c .before .inv-dct4 .ensures))
+    (λ c. search needs) (λ c. let m = c .before .before .before in by-code (firstOf (m .before .args .live) (m .before .args .c .now)) 4 (m .match .keys2) (times-left (firstOf (m .before .args .live) (m .before .args .c .now)) (pos 128) (m .before .pre .1 .1) (c .before .inv-identity .ensures)))
+    (λ c. search needs) (λ c. let m = c .before .before .before in by-code (firstOf (m .before .args .live) (m .before .args .c .now)) 4 (m .match .keys3) (c .before .inv-adst4 .ensures))
+    (λ c. search needs) (λ c. let m = c .before .before .before in by-code (firstOf (m .before .args .live) (m .before .args .c .now)) 4 (left m) (c .before .inv-flipadst4 .ensures)))

@@ -28,25 +28,25 @@ rO m = scatter (rowAt 4 half8 m) (placeAt 1 2)
 abbrev xs : tie.Start → ℕ → List ℤ
 xs s k = take 8 (cols k (s .args .c))
 
-isE : (p : tie.After-g-dct4) (k : ℕ) → Holds 4 rE (xs (p .before .before) k) (take 4 (cols k (p .g-dct4 .result)))
-isE p k = gather-holds 4 4 {A = colAt 4 dct4} (placeAt 0 2) (p .before .every-second .ensures k) tt (record { is = p .g-dct4 .ensures k })
+isE : (p : tie.After-four) (k : ℕ) → Holds 4 rE (xs (p .before .before) k) (take 4 (cols k (p .four .result)))
+isE p k = gather-holds 4 4 {A = colAt 4 dct4} (placeAt 0 2) (p .before .every-second .ensures k) tt (record { is = p .four .ensures k })
 
-isO : (p : tie.After-g-dst) (k : ℕ) → Holds 4 rO (xs (p .before .before .before .before) k) (take 4 (cols k (p .g-dst .result)))
+isO : (p : tie.After-g-rows) (k : ℕ) → Holds 4 rO (xs (p .before .before .before .before) k) (take 4 (cols k (p .g-rows .result)))
 isO p k =
     gather-holds 4 4 {A = rowAt 4 half8} (placeAt 1 2) (p .before .every-second2 .ensures k) tt
-    (record { is = p .g-dst .ensures k ∙ ap (λ t. denseBy false 4 t (take 4 (cols k (p .before .every-second2 .result)))) (p .before .before .before .before .pre .0) })
+    (record { is = p .g-rows .ensures k ∙ ap (λ t. denseBy false 4 t (take 4 (cols k (p .before .every-second2 .result)))) (p .before .before .before .before .pre .0) })
 
 every-second-requires : tie.Need-every-second-requires
 every-second-requires c κs = search needs
 
-g-dct4-requires : tie.Need-g-dct4-requires
-g-dct4-requires c κs k = subst (Within (2 ^ 19)) (sym (c .every-second .ensures k)) (gather-within (2 ^ 19) 4 (placeAt 0 2) (xs (c .before) k) (c .before .pre .1 k))
+four-requires : tie.Need-four-requires
+four-requires c κs k = subst (Within (2 ^ 19)) (sym (c .every-second .ensures k)) (gather-within (2 ^ 19) 4 (placeAt 0 2) (xs (c .before) k) (c .before .pre .1 k))
 
 every-second-requires-2 : tie.Need-every-second-requires-2
 every-second-requires-2 c κs = search needs
 
-g-dst-requires : tie.Need-g-dst-requires
-g-dst-requires c κs =
+g-rows-requires : tie.Need-g-rows-requires
+g-rows-requires c κs =
     let s = c .before .before .before in (
       (lit≤ tt, ap length (s .pre .0), subst (λ (t : List ℤ). (i : ℕ) → i < 4 → sizeOf (rowAt 4 t i) < 4096) (sym (s .pre .0)) (rows-light 4 half8 refl (lit< tt))),
       λ k. subst (Within (2 ^ 19)) (sym (c .every-second2 .ensures k)) (gather-within (2 ^ 19) 4 (placeAt 1 2) (xs s k) (s .pre .1 k)),
@@ -63,8 +63,8 @@ g-dct-combine-spec =
     tie.close
     (tie.spec
     every-second-requires
-    g-dct4-requires
+    four-requires
     every-second-requires-2
-    g-dst-requires
+    g-rows-requires
     g-fold-requires
     returns)

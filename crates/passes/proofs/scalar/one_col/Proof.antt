@@ -1,27 +1,32 @@
--- `passes::scalar::one_col` meets its contract: the column is taken, put through the kernel, and put back. Assumes nothing.
-use mathlib.Core.Path.{_≡_, sym, ap, _∙_, subst}
-use Prim.Native.Nat.{_^_}
+-- `passes::scalar::one_col` meets its contract: the live numbers of the column are taken, put through the kernel, and put back. Assumes nothing.
+use mathlib.Core.Path.{_≡_, sym, ap, _∙_}
+use mathlib.Core.List.{List}
+use Prim.Native.Nat.{ℕ, _*_, _≤_}
+use native.Mathlib.Nat as N
+use native.Mathlib.Omega.{arith}
 use borrow.Author.Needs.{needs}
-use lib.IntN.{pos}
+use lib.IntN.{ℤ, pos}
 use lib.ListN.{length, getD}
-use Rattle.whole.specs.Sums.{Within}
-use Rattle.whole.specs.Grid.{colOf}
-use Rattle.whole.proofs.Fill.{within-tab, length-tab}
-use Rattle.tables.specs.Dense.{denseOf}
+use Rattle.whole.specs.Grid.{gridOf}
+use Rattle.passes.proofs.Living.{live-asks, live-left}
 use Rattle.passes.proofs.scalar.one_col.Statement.{statement}
 use Rattle.passes.proofs.scalar.one_col.Tie as tie
 
+module _ (s : tie.Start) where
+  abbrev column : ℕ → ℤ
+  column r = gridOf (s .args .sw) (s .args .work .now) r (s .args .x)
+
+  room : s .args .live * s .args .sw ≤ length (s .args .work .now)
+  room = N.le-trans (N.mul-le-mul-right (s .args .sw) (s .pre .0 .5)) (s .pre .0 .2)
+
 take-col-requires : tie.Need-take-col-requires
-take-col-requires c κs = search needs
+take-col-requires c κs = let s = c .before .before in (room s, s .pre .0 .3, omega (arith, s .pre .0 .4, s .pre .0 .5))
 
 inv-tx1d-requires : tie.Need-inv-tx1d-requires
 inv-tx1d-requires c κs =
     let t = c .before .before in
-    let s = t .before .before .before in (
-      s .pre .0 .0,
-      ap length (t .take-col .ensures) ∙ length-tab (s .args .sh) (colOf (s .args .sw) (s .args .work .now) (s .args .x)) ∙ sym (s .pre .0 .1),
-      subst (Within (2 ^ 19)) (sym (t .take-col .ensures)) (within-tab (2 ^ 19) (s .args .sh) (colOf (s .args .sw) (s .args .work .now) (s .args .x)) (s .pre .1)),
-    )
+    let s = t .before .before .before in
+    (s .pre .0 .0, live-asks (s .args .n) (s .args .live) (s .args .sh) (column s) (t .take-col .last .0) (s .pre .0 .1) (s .pre .0 .5) (t .take-col .kept .0 ∙ sym (s .pre .0 .4)) (t .take-col .ensures) (s .pre .1))
 
 put-col-requires : tie.Need-put-col-requires
 put-col-requires c κs = search needs
@@ -37,8 +42,11 @@ returns c =
     let p = c .before in
     let u = p .before .before .before .before in
     let t = u .before .before .before in
-    let s = t .before .before .before in
-    (λ r h. p .put-col .ensures .0 r h ∙ ap (λ q. getD q r (pos 0)) (u .inv-tx1d .ensures ∙ ap (denseOf (s .args .n) (s .args .code)) (t .take-col .ensures)), p .put-col .ensures .1)
+    let s = t .before .before .before in (
+      λ r h. p .put-col .ensures .0 r h
+          ∙ ap (λ q. getD q r (pos 0)) (u .inv-tx1d .ensures ∙ live-left (s .args .n) (s .args .live) (s .args .sh) (column s) (t .take-col .last .0) (s .pre .0 .1) (s .pre .0 .5) (t .take-col .kept .0 ∙ sym (s .pre .0 .4)) (t .take-col .ensures) (s .args .code)),
+      p .put-col .ensures .1,
+    )
 
 pub one-col-spec : {M : Type 1} → statement M
 one-col-spec =

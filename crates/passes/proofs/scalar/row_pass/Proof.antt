@@ -4,21 +4,21 @@ use Prim.Native.Nat.{ℕ, _+_, _*_, _-_, _^_, _≤_, _<_}
 use native.Mathlib.Nat as N
 use native.Mathlib.Omega.{arith}
 use lib.IntN.{ℤ, pos}
-use lib.ListN.{length, take, drop}
-use Rattle.whole.specs.Sums.{Within}
+use lib.ListN.{length, getD, take, drop}
 use Rattle.whole.specs.Grid.{gridOf}
 use Rattle.whole.proofs.Cells.{row-in}
-use Rattle.whole.proofs.Fill.{within-tab, length-tab}
+use Rattle.whole.proofs.Fill.{length-tab, tab-at}
 use Rattle.whole.proofs.Grid.{Lines, lines-start, lines-done, row-is, rows-step}
-use Rattle.tables.specs.Dense.{denseOf}
+use Rattle.tables.specs.Dense.{firstDense}
+use Rattle.passes.proofs.Living.{live-asks}
 use Rattle.passes.proofs.scalar.row_pass.Statement.{statement}
 use Rattle.passes.proofs.scalar.row_pass.Tie as tie
 
 abbrev Inv-loop : tie.InvT-loop
-Inv-loop work₀ sw sh n code r₀ work r = Lines (gridOf sw) sw sh (denseOf n code) work₀ work r
+Inv-loop work₀ sw sh n code live r₀ work r = Lines (gridOf sw) sw sh (firstDense n code live) work₀ work r
 
 abbrev μ-loop : tie.MeasureT-loop
-μ-loop work₀ sw sh n code r₀ work r = sh - r
+μ-loop work₀ sw sh n code live r₀ work r = sh - r
 
 -- the row lies in the area
 end : (c : tie.In-loop Inv-loop μ-loop) → c .before .loop .r * c .before .before .args .sw + c .before .before .args .sw ≤ length (c .before .before .args .work .now)
@@ -51,8 +51,10 @@ inv-tx1d-requires c κs =
     let s = h .before in
     let e = row-is (h .loop .inv) (c .before .loop-test .taken) (s .pre .2) _ (N.add-sub-cancel-left (h .loop .r * s .args .sw) (s .args .sw)) in (
       s .pre .0,
-      ap length e ∙ length-tab (s .args .sw) (gridOf (s .args .sw) (s .args .work .now) (h .loop .r)) ∙ sym (s .pre .1),
-      subst (Within (2 ^ 19)) (sym e) (within-tab (2 ^ 19) (s .args .sw) (gridOf (s .args .sw) (s .args .work .now) (h .loop .r)) (λ x q. s .pre .3 (h .loop .r) x (c .before .loop-test .taken) q)),
+      live-asks (s .args .n) (s .args .live) (s .args .sw) (gridOf (s .args .sw) (s .args .work .now) (h .loop .r)) _ (s .pre .1) (s .pre .3)
+          (ap length e ∙ length-tab (s .args .sw) (gridOf (s .args .sw) (s .args .work .now) (h .loop .r)))
+          (λ k p. ap (λ l. getD l k (pos 0)) e ∙ tab-at (pos 0) (s .args .sw) (gridOf (s .args .sw) (s .args .work .now) (h .loop .r)) k (N.lt-of-lt-of-le p (s .pre .3)))
+          (λ k p. s .pre .4 (h .loop .r) k (c .before .loop-test .taken) p),
     )
 
 add-r : tie.Need-add-r Inv-loop μ-loop
