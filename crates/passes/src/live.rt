@@ -50,13 +50,17 @@ fn last_line(coeff: &[i32], top: usize, size: usize) -> usize
     x
 }
 
-// One more than the last of all lines that is not empty. Those from the fifth on are first tested as a whole.
+// One more than the last of all lines that is not empty: most often the last; else those from the fifth on are tested as a whole.
 fn live_lines(coeff: &[i32], lines: usize, size: usize) -> usize
     requires { ⌜ (4 ≤ lines) × (lines ≤ 32) × (size ≤ 32) × (lines * size ≤ length (now coeff)) ⌝ }
     ensures { λ n. ⌜ (n ≤ lines) × DeadLines n lines size (now (coeff .entry)) ⌝ }
 {
     let a = 4 * size;
     let e = lines * size;
+    let b = e - size;
+    if some(&coeff[b..e]) != 0 {
+        return lines;
+    }
     if some(&coeff[a..e]) == 0 {
         last_line(coeff, 4, size)
     } else {
