@@ -1,65 +1,20 @@
 // What each command does. Each takes the screen as it is and the numbers of its line, and gives the screen as it is then.
 ghost use mathlib.Core.List.{List};
 ghost use mathlib.Core.Path.{_≡_};
-ghost use Prim.Native.Nat.{_-_, _*_, _^_, _≤_, _<_};
-ghost use lib.IntN.{ℤ, pos};
+ghost use Prim.Native.Nat.{_-_, _*_, _≤_, _<_};
+ghost use lib.IntN.{ℤ};
 ghost use lib.ListN.{length};
 ghost use Rattle.answers.specs.Answers.{done};
 ghost use Rattle.lossless.specs.Wanted.{Samples};
-ghost use Rattle.glass.specs.Screens.{Sound, Back, Held, Onward, possibleOf};
-ghost use Rattle.glass.specs.Steps.{entryAt, backOf};
+ghost use Rattle.screen.specs.Screens.{Sound, Back, Held, Onward};
+ghost use Rattle.screen.specs.Steps.{entryAt, backOf};
 use crate::picture;
-use crate::plane;
-use crate::plane::natural;
 use crate::say;
-use crate::steps;
 use kernels::sums::copy;
-use lossless::front::between;
-
-// A screen; one of stride 0 is none.
-pub struct Screen {
-    pub stride: usize, // The samples of a line: the visible ones, and the pad.
-    pub width: usize,
-    pub height: usize,
-    pub depth: u32,
-    pub steps: usize, // The steps that can be taken back.
-    pub kept: bool, // Whether there is a kept copy.
-}
-
-// A screen with other steps.
-fn with_steps(s: Screen, steps: usize) -> Screen
-    ensures { λ r. ⌜ (r .width ≡ s .width) × (r .height ≡ s .height) × (r .depth ≡ s .depth) × (r .steps ≡ steps) × (r .stride ≡ s .stride) ⌝ }
-{
-    Screen {
-        stride: s.stride,
-        width: s.width,
-        height: s.height,
-        depth: s.depth,
-        steps,
-        kept: s.kept,
-    }
-}
-
-// Whether a screen may have these sides and this depth.
-fn possible(width: usize, height: usize, depth: usize) -> bool
-    ensures { λ r. ⌜ r ≡ possibleOf width height depth ⌝ }
-{
-    between(width, 4, 256) && (between(height, 4, 256) && between(depth, 8, 12))
-}
-
-// The middle grey.
-fn grey(depth: usize) -> i32
-    requires { ⌜ (8 ≤ depth) × (depth ≤ 12) ⌝ }
-    ensures { λ r. ⌜ r ≡ pos (2 ^ (depth - 1)) ⌝ }
-{
-    match depth {
-        8 => 128,
-        9 => 256,
-        10 => 512,
-        11 => 1024,
-        _ => 2048,
-    }
-}
+use screen::Screen;
+use screen::plane;
+use screen::plane::natural;
+use screen::steps;
 
 // The event of a new screen.
 fn say_screen(line: usize, width: usize, height: usize, depth: usize, pad: usize) {
@@ -75,32 +30,6 @@ fn say_screen(line: usize, width: usize, height: usize, depth: usize, pad: usize
         say::number(pad);
     }
     say::text(b"\n");
-}
-
-// A new screen, all of the middle grey, and its pad.
-fn new_screen(
-    line: usize,
-    width: usize,
-    height: usize,
-    depth: usize,
-    pad: usize,
-    room: &mut [i32],
-) -> Screen
-    requires { ⌜ (4 ≤ width) × (width ≤ 256) × (height ≤ 256) × (8 ≤ depth) × (depth ≤ 12) × (pad ≤ 64) × (81920 ≤ length (now room)) ⌝ }
-    ensures { λ r. ⌜ Sound r × (r .steps ≡ 0) ⌝ }
-{
-    let stride = width + pad;
-    let n = stride * height;
-    plane::blank(&mut room[..n], stride, width, grey(depth));
-    say_screen(line, width, height, depth, pad);
-    Screen {
-        stride,
-        width,
-        height,
-        depth: depth as u32,
-        steps: 0,
-        kept: false,
-    }
 }
 
 // The pad of a new screen: none, if its line doesn't say.
@@ -121,7 +50,7 @@ pub fn begin(line: usize, s: Screen, list: &[i32], count: usize, room: &mut [i32
     let width = natural(list[0]);
     let height = natural(list[1]);
     let depth = natural(list[2]);
-    if !possible(width, height, depth) {
+    if !screen::possible(width, height, depth) {
         say::error(line, b"sides are 4 to 256, depth 8 to 12");
         return s;
     }
@@ -130,7 +59,8 @@ pub fn begin(line: usize, s: Screen, list: &[i32], count: usize, room: &mut [i32
         say::error(line, b"a pad is 0 to 64");
         return s;
     }
-    new_screen(line, width, height, depth, pad, room)
+    say_screen(line, width, height, depth, pad);
+    screen::new_screen(width, height, depth, pad, room)
 }
 
 // How many coefficients a block has; as many as any, where there is no such size.
@@ -162,7 +92,7 @@ pub fn block(line: usize, s: Screen, list: &mut [i32], count: usize, room: &mut 
         return s;
     }
     say::text(b": done\n");
-    with_steps(s, 0)
+    screen::with_steps(s, 0)
 }
 
 // A change into a wanted block whose samples are in range, while there is room for a step.
@@ -199,7 +129,7 @@ fn changed(
     }
     steps::remember(past, s.steps, &entry);
     say::steps(s.steps + 1);
-    with_steps(s, s.steps + 1)
+    screen::with_steps(s, s.steps + 1)
 }
 
 // A change into a wanted block.
@@ -269,7 +199,7 @@ fn undo_some(line: usize, s: Screen, count: usize, room: &mut [i32], past: &[i32
         k -= 1;
         left -= 1;
     }
-    with_steps(s, k)
+    screen::with_steps(s, k)
 }
 
 // The event of an undo of 0 steps.

@@ -1,17 +1,13 @@
 // Reads a script on standard input (docs/GLASS.md), plays it, and writes what happens and the pictures on standard output.
 // The files stdin and stdout hold a script and what it gives; tools/record-glass writes both.
-//     plane       the samples: blocks, the first difference
-//     steps       changes into wanted blocks, and the steps that are remembered
 //     picture     a plane as PGM
 //     say         the line of an event
 //     commands    what each command does
 //     script      lines into commands
 mod commands;
 mod picture;
-mod plane;
 mod say;
 mod script;
-mod steps;
 
 fn main() {
     let mut text = [0u8; 262144];

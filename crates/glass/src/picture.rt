@@ -1,8 +1,8 @@
 // A plane as a picture in plain PGM.
 ghost use Prim.Native.Nat.{_*_, _≤_};
 ghost use lib.ListN.{length};
-use crate::plane::natural;
 use crate::say;
+use screen::plane::natural;
 
 // The samples of a row, at most 14 to a line.
 fn row(samples: &[i32]) {

@@ -1,4 +1,6 @@
 // The line of an event.
+ghost use Prim.Native.Nat.{_≤_};
+ghost use lib.ListN.{length};
 use answers::Answer;
 use libc::STDOUT_FILENO;
 
@@ -76,31 +78,53 @@ pub fn error_of(line: usize, words: &[u8], n: usize, rest: &[u8]) {
     nothing();
 }
 
+// Where item k of a list starts, or the list's end where there are fewer. Each item ends with a line feed; the first has number 0.
+fn item_at(list: &[u8], k: usize) -> usize
+    ensures { λ r. ⌜ r ≤ length (now (list .entry)) ⌝ }
+{
+    let mut at = 0;
+    let mut left = k;
+    while 0 < left {
+        let end = bytes::scan::find(list, at, list.len(), 10);
+        if list.len() <= end {
+            return end;
+        }
+        at = end + 1;
+        left -= 1;
+    }
+    at
+}
+
+// Item k of a list.
+pub fn item(list: &[u8], k: usize) {
+    let from = item_at(list, k);
+    let to = bytes::scan::find(list, from, list.len(), 10);
+    text(&list[from..to]);
+}
+
+// A bad line, by the item of a list.
+pub fn error_item(line: usize, list: &[u8], k: usize) {
+    start(line);
+    text(b"error: ");
+    item(list, k);
+    nothing();
+}
+
 // What a refusal is about.
 fn about(refusal: u32) {
-    match refusal {
-        1 => text(b"depth"),
-        2 => text(b"size number"),
-        3 => text(b"type number"),
-        4 => text(b"kind"),
-        5 => text(b"stride"),
-        6 => text(b"length or place"),
-        7 => text(b"coefficient or level"),
-        8 => text(b"sample"),
-        _ => text(b"sample after the step"),
-    }
+    item(
+        b"\ndepth\nsize number\ntype number\nkind\nstride\nlength or place\ncoefficient or level\nsample\n\nsample after the step\n",
+        refusal as usize,
+    );
 }
 
 // The slice that a refusal is about, where there is one.
 fn about_slice(slice: u32) {
-    match slice {
-        0 => text(b"\n"),
-        1 => text(b", coefficients or levels\n"),
-        2 => text(b", prediction or plane\n"),
-        3 => text(b", output\n"),
-        4 => text(b", first chroma\n"),
-        _ => text(b", second chroma\n"),
-    }
+    item(
+        b"\n, coefficients or levels\n, prediction or plane\n, output\n, first chroma\n, second chroma\n",
+        slice as usize,
+    );
+    text(b"\n");
 }
 
 // A refusal: its numbers, then the same in words.

@@ -1,42 +1,40 @@
 // Lines into commands.
 ghost use Prim.Native.Nat.{_≤_, _<_};
 ghost use lib.ListN.{length};
-ghost use Rattle.glass.specs.Screens.{Sound, Held, Roomy};
+ghost use Rattle.screen.specs.Screens.{Sound, Held, Roomy};
 use crate::commands;
-use crate::commands::Screen;
-use crate::plane::natural;
 use crate::say;
 use libc::STDIN_FILENO;
+use screen::Screen;
+use screen::plane::natural;
+
+// The number of a word among names, counted from 1; 0 for none. Each name ends with a line feed.
+fn which(line: &[u8], from: usize, to: usize, names: &[u8]) -> u32
+    requires { ⌜ (from ≤ to) × (to ≤ length (now line)) × (length (now names) ≤ 1000) ⌝ }
+{
+    let mut at = 0;
+    let mut k = 0;
+    while at < names.len() {
+        let end = bytes::scan::find(names, at, names.len(), 10);
+        k += 1;
+        if words::same(line, from, to, &names[at..end]) {
+            return k;
+        }
+        at = end + 1;
+    }
+    0
+}
 
 // The commands, by number; 0 is none.
 fn command(line: &[u8], from: usize, to: usize) -> u32
     requires { ⌜ (from ≤ to) × (to ≤ length (now line)) ⌝ }
 {
-    if words::same(line, from, to, b"screen") {
-        return 1;
-    }
-    if words::same(line, from, to, b"block") {
-        return 2;
-    }
-    if words::same(line, from, to, b"change") {
-        return 3;
-    }
-    if words::same(line, from, to, b"undo") {
-        return 4;
-    }
-    if words::same(line, from, to, b"show") {
-        return 5;
-    }
-    if words::same(line, from, to, b"keep") {
-        return 6;
-    }
-    if words::same(line, from, to, b"compare") {
-        return 7;
-    }
-    if words::same(line, from, to, b"pad") {
-        return 8;
-    }
-    0
+    which(
+        line,
+        from,
+        to,
+        b"screen\nblock\nchange\nundo\nshow\nkeep\ncompare\npad\n",
+    )
 }
 
 // Whether a command takes so many numbers.
@@ -52,19 +50,11 @@ fn takes(command: u32, count: usize) -> bool {
 
 // What a command takes.
 fn usage(number: usize, command: u32) {
-    match command {
-        1 => say::error(
-            number,
-            b"screen takes WIDTH HEIGHT DEPTH and a pad or nothing",
-        ),
-        2 => say::error(number, b"block takes ROW COLUMN SIZE TYPE and coefficients"),
-        3 => say::error(number, b"change takes ROW COLUMN and 16 samples"),
-        4 => say::error(number, b"undo takes a count or nothing"),
-        5 => say::error(number, b"show takes nothing"),
-        6 => say::error(number, b"keep takes nothing"),
-        7 => say::error(number, b"compare takes nothing"),
-        _ => say::error(number, b"pad takes nothing"),
-    }
+    say::error_item(
+        number,
+        b"\nscreen takes WIDTH HEIGHT DEPTH and a pad or nothing\nblock takes ROW COLUMN SIZE TYPE and coefficients\nchange takes ROW COLUMN and 16 samples\nundo takes a count or nothing\nshow takes nothing\nkeep takes nothing\ncompare takes nothing\npad takes nothing\n",
+        command as usize,
+    );
 }
 
 // How many of a command's numbers, the first, may not be negative.
@@ -100,6 +90,17 @@ fn undo_count(list: &[i32], count: usize) -> usize
     natural(list[0])
 }
 
+// A command that only looks at the screen.
+fn look(number: usize, command: u32, s: Screen, room: &[i32], kept: &[i32])
+    requires { ⌜ Sound s × (0 < s .stride) × (81920 ≤ length (now room)) × (81920 ≤ length (now kept)) ⌝ }
+{
+    match command {
+        5 => commands::show(number, s, room),
+        7 => commands::compare(number, s, room, kept),
+        _ => commands::pad(number, s, room),
+    }
+}
+
 // A command on a screen that is there.
 fn on_screen(
     number: usize,
@@ -124,20 +125,29 @@ fn on_screen(
             commands::change(number, s, row, column, &list[2..18], room, past)
         }
         4 => commands::undo(number, s, undo_count(list, count), room, past),
-        5 => {
-            commands::show(number, s, room);
-            s
-        }
         6 => commands::keep(number, s, room, kept),
-        7 => {
-            commands::compare(number, s, room, kept);
-            s
-        }
         _ => {
-            commands::pad(number, s, room);
+            look(number, command, s, room, kept);
             s
         }
     }
+}
+
+// Whether a command has as many numbers as it takes, and none negative that may not be. If not, the line is named.
+fn fitting(number: usize, command: u32, list: &[i32], count: usize) -> bool
+    requires { ⌜ 1028 ≤ length (now list) ⌝ }
+{
+    if !takes(command, count) {
+        usage(number, command);
+        return false;
+    }
+    let n = heads(command, count);
+    let bad = ranges::first_outside(list, 0, 0, n, 1, 0, 2147483647);
+    if bad < n {
+        say::error_at(number, bad + 1, b" is negative");
+        return false;
+    }
+    true
 }
 
 // A command with its numbers.
@@ -156,14 +166,7 @@ fn run(
     requires { ⌜ Held s (now room) (now past) ⌝ }
     ensures { λ r. ⌜ Sound r × Held r (now (room .exit)) (now (past .exit)) ⌝ }
 {
-    if !takes(command, count) {
-        usage(number, command);
-        return s;
-    }
-    let n = heads(command, count);
-    let bad = ranges::first_outside(list, 0, 0, n, 1, 0, 2147483647);
-    if bad < n {
-        say::error_at(number, bad + 1, b" is negative");
+    if !fitting(number, command, list, count) {
         return s;
     }
     if command == 1 {

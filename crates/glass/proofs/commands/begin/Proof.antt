@@ -3,8 +3,8 @@ use mathlib.Core.Path.{sym, _∙_}
 use Prim.Native.Nat.{_*_}
 use borrow.Author.Needs.{needs}
 use borrow.Author.Tests.{not-false}
-use Rattle.glass.proofs.Planes.{possible-is}
-use Rattle.glass.proofs.Stepping.{none-held}
+use Rattle.screen.proofs.Planes.{possible-is}
+use Rattle.screen.proofs.Stepping.{none-held}
 use Rattle.glass.proofs.commands.begin.Statement.{statement}
 use Rattle.glass.proofs.commands.begin.Tie as tie
 
@@ -50,14 +50,17 @@ error-requires-2 c κs = search needs
 returns-2 : tie.Need-returns-2
 returns-2 c = search needs
 
+say-screen-requires : tie.Need-say-screen-requires
+say-screen-requires c κs = search needs
+
 new-screen-requires : tie.Need-new-screen-requires
 new-screen-requires c κs =
-    let e = c .before .before .before in
+    let e = c .before .before .before .before in
     let d = e .before .before in
     let h = d .before .before in
     let w = h .before .before in
     let p = possible-is (w .natural .result) (h .natural2 .result) (d .natural3 .result) (sym (e .before .possible .ensures) ∙ not-false _ (e .if1 .left)) in
-    (p .0, p .1, p .2, p .3, p .4, c .before .if2 .left, w .before .before .pre .2)
+    (p .0, p .1, p .2, p .3, p .4, c .before .before .if2 .left, w .before .before .pre .2)
 
 same-length : tie.Need-same-length
 same-length c = search needs
@@ -66,7 +69,7 @@ returns-3 : tie.Need-returns-3
 returns-3 c =
     let f = c .before .new-screen in
     let q = f .result in
-    (f .ensures .0, λ past x. none-held (q .stride * q .height) (q .depth) (q .stride) (q .width) (q .steps) (f .last .1 .1 .1 .1 .1 .0) past (f .ensures .1))
+    (f .ensures .0 .0, λ past x. none-held (q .stride * q .height) (q .depth) (q .stride) (q .width) (q .steps) (f .last .1 .1 .1 .1 .0) past (f .ensures .0 .1))
 
 pub begin-spec : {M : Type 1} → statement M
 begin-spec =
@@ -86,6 +89,7 @@ begin-spec =
     slice-aggregate-error-2
     error-requires-2
     returns-2
+    say-screen-requires
     new-screen-requires
     same-length
     returns-3)

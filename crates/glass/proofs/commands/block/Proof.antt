@@ -6,8 +6,8 @@ use borrow.Author.Needs.{needs}
 use borrow.Rule.Slice.PartMut.{putMid}
 use lib.IntN.{ℤ}
 use lib.ListN.{length}
-use Rattle.glass.specs.Screens.{Held}
-use Rattle.glass.proofs.Stepping.{none-held, sound-steps, held-steps, drawn-same}
+use Rattle.screen.specs.Screens.{Held}
+use Rattle.screen.proofs.Stepping.{none-held, sound-steps, held-steps, drawn-same}
 use Rattle.glass.proofs.commands.block.Statement.{statement}
 use Rattle.glass.proofs.commands.block.Tie as tie
 

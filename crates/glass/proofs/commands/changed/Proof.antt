@@ -5,9 +5,9 @@ use Prim.Native.Nat.{_+_}
 use native.Mathlib.Omega.{arith}
 use borrow.Author.Needs.{needs}
 use lib.IntN.{ℤ}
-use Rattle.glass.specs.Screens.{Held}
-use Rattle.glass.proofs.Planes.{few-samples}
-use Rattle.glass.proofs.Stepping.{sound-steps, held-steps, room-same, held-more}
+use Rattle.screen.specs.Screens.{Held}
+use Rattle.screen.proofs.Planes.{few-samples}
+use Rattle.screen.proofs.Stepping.{sound-steps, held-steps, room-same, held-more}
 use Rattle.glass.proofs.commands.changed.Statement.{statement}
 use Rattle.glass.proofs.commands.changed.Tie as tie
 

@@ -3,7 +3,7 @@ use mathlib.Core.Path.{_≡_, sym, _∙_}
 use Prim.Native.Nat.{_*_}
 use borrow.Author.Needs.{needs}
 use lib.ListN.{length, take}
-use Rattle.glass.proofs.Planes.{few-samples, few-fits, screen-part}
+use Rattle.screen.proofs.Planes.{few-samples, few-fits, screen-part}
 use Rattle.glass.proofs.commands.keep.Statement.{statement}
 use Rattle.glass.proofs.commands.keep.Tie as tie
 

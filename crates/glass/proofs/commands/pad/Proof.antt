@@ -1,7 +1,7 @@
 -- `commands::pad` is safe: the samples lie in the room. Assumes nothing.
 use mathlib.Core.Path.{sym}
 use borrow.Author.Needs.{needs}
-use Rattle.glass.proofs.Planes.{few-fits, screen-part}
+use Rattle.screen.proofs.Planes.{few-fits, screen-part}
 use Rattle.glass.proofs.commands.pad.Statement.{statement}
 use Rattle.glass.proofs.commands.pad.Tie as tie
 

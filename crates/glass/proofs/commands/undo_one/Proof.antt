@@ -5,10 +5,10 @@ use borrow.Author.Needs.{needs}
 use borrow.Author.Tests.{eq-eqb}
 use Rattle.answers.specs.declared.Answer.{Answer}
 use Rattle.answers.specs.Answers.{done}
-use Rattle.glass.specs.Screens.{Back}
-use Rattle.glass.specs.Steps.{entryAt, backOf}
-use Rattle.glass.proofs.Planes.{few-samples}
-use Rattle.glass.proofs.Stepping.{held-less}
+use Rattle.screen.specs.Screens.{Back}
+use Rattle.screen.specs.Steps.{entryAt, backOf}
+use Rattle.screen.proofs.Planes.{few-samples}
+use Rattle.screen.proofs.Stepping.{held-less}
 use Rattle.glass.proofs.commands.undo_one.Statement.{statement}
 use Rattle.glass.proofs.commands.undo_one.Tie as tie
 

@@ -4,8 +4,8 @@ use Prim.Native.Nat.{_*_, _≤_}
 use native.Mathlib.Omega.{arith}
 use borrow.Author.Needs.{needs}
 use lib.ListN.{length}
-use Rattle.glass.specs.Screens.{Back}
-use Rattle.glass.proofs.Stepping.{sound-steps, held-steps}
+use Rattle.screen.specs.Screens.{Back}
+use Rattle.screen.proofs.Stepping.{sound-steps, held-steps}
 use Rattle.glass.proofs.commands.undo_some.Statement.{statement}
 use Rattle.glass.proofs.commands.undo_some.Tie as tie
 

@@ -4,7 +4,7 @@ use native.Mathlib.Nat as N
 use native.Mathlib.Omega.{arith}
 use borrow.Author.Needs.{needs}
 use lib.ListN.{length}
-use Rattle.glass.proofs.Planes.{few-samples}
+use Rattle.screen.proofs.Planes.{few-samples}
 use Rattle.glass.proofs.picture.rows.Statement.{statement}
 use Rattle.glass.proofs.picture.rows.Tie as tie
 

@@ -6,8 +6,8 @@ use native.Mathlib.Omega.{arith}
 use borrow.Author.Needs.{needs}
 use lib.Dec.{lit≤}
 use lib.ListN.{length}
-use Rattle.glass.specs.Screens.{Sound, Held}
-use Rattle.glass.proofs.Stepping.{none-held}
+use Rattle.screen.specs.Screens.{Sound, Held}
+use Rattle.screen.proofs.Stepping.{none-held}
 use Rattle.glass.proofs.script.each_line.Statement.{statement}
 use Rattle.glass.proofs.script.each_line.Tie as tie
 

@@ -30,17 +30,11 @@ undo-count-requires c κs = search needs
 undo-requires : tie.Need-undo-requires
 undo-requires c κs = search needs
 
-show-requires : tie.Need-show-requires
-show-requires c κs = search needs
-
 keep-requires : tie.Need-keep-requires
 keep-requires c κs = search needs
 
-compare-requires : tie.Need-compare-requires
-compare-requires c κs = search needs
-
-pad-requires : tie.Need-pad-requires
-pad-requires c κs = search needs
+look-requires : tie.Need-look-requires
+look-requires c κs = search needs
 
 same-length : tie.Need-same-length
 same-length c = search needs
@@ -81,35 +75,23 @@ returns-3 c = search needs
 same-length-9 : tie.Need-same-length-9
 same-length-9 c = search needs
 
-returns-4 : tie.Need-returns-4
-returns-4 c = search needs
-
 same-length-10 : tie.Need-same-length-10
 same-length-10 c = search needs
 
-same-length-11 : tie.Need-same-length-11
-same-length-11 c = search needs
-
-returns-5 : tie.Need-returns-5
-returns-5 c =
+returns-4 : tie.Need-returns-4
+returns-4 c =
     let f = c .before in
     let s = f .before .before .before .before in
     (f .keep .ensures .0, f .keep .ensures .1 (s .args .room .now) (s .args .past .now) (s .pre .1 .1))
 
+same-length-11 : tie.Need-same-length-11
+same-length-11 c = search needs
+
 same-length-12 : tie.Need-same-length-12
 same-length-12 c = search needs
 
-same-length-13 : tie.Need-same-length-13
-same-length-13 c = search needs
-
-returns-6 : tie.Need-returns-6
-returns-6 c = search needs
-
-same-length-14 : tie.Need-same-length-14
-same-length-14 c = search needs
-
-returns-7 : tie.Need-returns-7
-returns-7 c = search needs
+returns-5 : tie.Need-returns-5
+returns-5 c = search needs
 
 pub on-screen-spec : {M : Type 1} → statement M
 on-screen-spec =
@@ -124,10 +106,8 @@ on-screen-spec =
     change-requires
     undo-count-requires
     undo-requires
-    show-requires
     keep-requires
-    compare-requires
-    pad-requires
+    look-requires
     same-length
     same-length-2
     returns
@@ -140,12 +120,8 @@ on-screen-spec =
     same-length-8
     returns-3
     same-length-9
-    returns-4
     same-length-10
+    returns-4
     same-length-11
-    returns-5
     same-length-12
-    same-length-13
-    returns-6
-    same-length-14
-    returns-7)
+    returns-5)

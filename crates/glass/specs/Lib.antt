@@ -1,7 +1,0 @@
--- What the contracts of the program cite.
---     Planes     the samples of a screen: a block's place, a block added, two planes compared
---     Steps      changes into wanted blocks, and the steps that are remembered
---     Screens    a screen, and what always holds of it
-pub mod Planes
-pub mod Steps
-pub mod Screens
