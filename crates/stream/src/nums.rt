@@ -1,7 +1,8 @@
 // Numbers as bytes, the lowest byte first, and bits as signed numbers in two's complement.
 ghost use Prim.Native.Nat.{_+_, _*_, _%_, _≤_};
 ghost use mathlib.Core.Path.{_≡_};
-ghost use lib.ListN.{length};
+ghost use lib.IntN.{pos};
+ghost use lib.ListN.{length, getD};
 ghost use mir.Syntax.{w32, w64};
 ghost use mir.Val.{toZ, ofZ};
 ghost use Rattle.whole.specs.Numbers.{inRange, lowest, highest};
@@ -114,4 +115,48 @@ pub fn encode(list: &[i32], bytes: &mut [u8])
         put_num(bytes, 4 * i, bits(list[i]));
         i += 1;
     }
+}
+
+// Signed numbers as unsigned ones, by their bits.
+pub fn unsigned(list: &[i32], out: &mut [u32])
+    requires { ⌜ length (now list) ≡ length (now out) ⌝ }
+    ensures { λ _. ⌜ now (out .exit) ≡ tab (length (now (list .entry))) (λ k. ofZ w32 (getD (now (list .entry)) k (pos 0))) ⌝ }
+{
+    let mut i = 0;
+    while i < list.len() {
+        out[i] = bits(list[i]);
+        i += 1;
+    }
+}
+
+// Unsigned numbers as signed ones, by their bits.
+pub fn resigned(list: &[u32], out: &mut [i32])
+    requires { ⌜ length (now list) ≡ length (now out) ⌝ }
+    ensures { λ _. ⌜ now (out .exit) ≡ tab (length (now (list .entry))) (λ k. toZ w32 (getD (now (list .entry)) k 0)) ⌝ }
+{
+    let mut i = 0;
+    while i < list.len() {
+        out[i] = signed(list[i]);
+        i += 1;
+    }
+}
+
+// Zeros from a place on.
+pub fn clear(list: &mut [i32], from: usize) {
+    let mut i = from;
+    while i < list.len() {
+        list[i] = 0;
+        i += 1;
+    }
+}
+
+// How many numbers there are up to the last that is not 0.
+pub fn used(list: &[i32]) -> usize
+    ensures { λ r. ⌜ r ≤ length (now (list .entry)) ⌝ }
+{
+    let mut n = list.len();
+    while n > 0 && list[n - 1] == 0 {
+        n -= 1;
+    }
+    n
 }
