@@ -9,12 +9,20 @@ use stream::nums;
 // Whether there is a call of that number.
 pub fn known(call: u64) -> bool {
     match call {
-        1..=17 | 34 | 35 => true,
+        1..=17 | 28..=32 | 34 | 35 => true,
         _ => false,
     }
 }
 
-// How many slices a call has. A third one is floats.
+// Whether a call works on a history.
+pub fn remembers(call: u64) -> bool {
+    match call {
+        28..=32 => true,
+        _ => false,
+    }
+}
+
+// How many slices a call has that works on none. A third one is floats.
 pub fn slices(call: u64) -> usize {
     match call {
         34 | 35 => 1,
@@ -31,21 +39,26 @@ pub fn words(call: u64) -> usize
         6 | 7 => 0,
         35 => 1,
         34 => 2,
+        29 | 32 => 3,
+        30 | 31 => 4,
+        28 => 6,
         1 | 2 | 5 | 10 | 11 | 14 | 15 => 3,
         3 | 4 | 12 | 13 | 16 | 17 => 4,
         _ => 5,
     }
 }
 
-// The word of a call that has to be a u32: its depth or its bits.
+// The word of a call that has to be a u32: its depth, its bits or the number of a step; 0 where it has none.
 fn narrow(call: u64, words: [u64; 6]) -> u64 {
     match call {
+        29 | 32 => 0,
+        30 | 31 => words[3],
         34 => words[1],
         _ => words[0],
     }
 }
 
-// Whether the words fit the arguments' types: a depth or a bit count, and the two of an angle. The others are words themselves.
+// Whether the words fit the arguments' types: the narrow one, and the two of an angle. The others are words themselves.
 pub fn in_types(call: u64, words: [u64; 6]) -> bool {
     if 4294967295 < narrow(call, words) {
         return false;
@@ -143,4 +156,80 @@ pub fn run_floats(
     let r = recon(call, words, a, b, f);
     floats::store(f, c);
     r
+}
+
+// A step, remembered.
+fn remembered_step(
+    words: [u64; 6],
+    level: &[i32],
+    plane: &mut [i32],
+    steps: &mut [u32],
+    levels: &mut [i32],
+    index: &mut [u32],
+) -> Answer {
+    let depth = nums::low(words[0]);
+    let stride = words[1] as usize;
+    let width = words[2] as usize;
+    let rows = words[3] as usize;
+    let row = words[4] as usize;
+    let column = words[5] as usize;
+    history::history_step(
+        depth,
+        plane,
+        stride,
+        width,
+        rows,
+        row,
+        column,
+        level,
+        steps,
+        levels,
+        index,
+    )
+}
+
+// The other calls on a history.
+fn remembered(
+    call: u64,
+    words: [u64; 6],
+    plane: &mut [i32],
+    steps: &mut [u32],
+    levels: &mut [i32],
+    index: &mut [u32],
+) -> Answer {
+    let stride = words[0] as usize;
+    let width = words[1] as usize;
+    let rows = words[2] as usize;
+    let number = nums::low(words[3]);
+    match call {
+        29 => history::history_undo(plane, stride, width, rows, steps, levels, index),
+        30 => history::history_withdraw(plane, stride, width, rows, number, steps, levels, index),
+        31 => history::history_can_withdraw(
+            plane,
+            stride,
+            width,
+            rows,
+            number,
+            steps,
+            levels,
+            index,
+        ),
+        _ => history::history_rebuild(plane, stride, width, rows, steps, levels, index),
+    }
+}
+
+// Runs a call on a history.
+pub fn run_history(
+    call: u64,
+    words: [u64; 6],
+    level: &[i32],
+    plane: &mut [i32],
+    steps: &mut [u32],
+    levels: &mut [i32],
+    index: &mut [u32],
+) -> Answer {
+    match call {
+        28 => remembered_step(words, level, plane, steps, levels, index),
+        _ => remembered(call, words, plane, steps, levels, index),
+    }
 }

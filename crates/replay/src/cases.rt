@@ -4,10 +4,11 @@ ghost use mathlib.Core.Path.{_≡_};
 ghost use lib.ListN.{length};
 ghost use Rattle.replay.specs.Rooms.{ByteRoom, Room, Roomy, Kept};
 use crate::calls;
+use crate::histories;
 use stream::slices;
 
 // A stream that breaks the rules is answered with this word, and nothing more.
-fn broken() -> bool {
+pub fn broken() -> bool {
     slices::write_word(18446744073709551615);
     false
 }
@@ -158,6 +159,9 @@ fn case(
     }
     if !calls::in_types(call, words) {
         return broken();
+    }
+    if calls::remembers(call) {
+        return histories::case(call, words, a, b);
     }
     first(call, words, bytes, a, b, c, f)
 }

@@ -2,8 +2,10 @@
 // The files stdin and stdout hold recorded cases and their answers.
 //     calls     what each call is handed, and how each is run
 //     cases     one case: read, run and answered
+//     histories the same for the calls on a history, whose memory is trimmed in a stream
 mod calls;
 mod cases;
+mod histories;
 
 ghost use Rattle.replay.specs.Rooms.{Roomy};
 
