@@ -9,7 +9,7 @@ use stream::nums;
 // Whether there is a call of that number.
 pub fn known(call: u64) -> bool {
     match call {
-        1..=17 | 28..=32 | 34 | 35 => true,
+        1..=17 | 28..=33 | 34 | 35 => true,
         _ => false,
     }
 }
@@ -17,7 +17,7 @@ pub fn known(call: u64) -> bool {
 // Whether a call works on a history.
 pub fn remembers(call: u64) -> bool {
     match call {
-        28..=32 => true,
+        28..=33 => true,
         _ => false,
     }
 }
@@ -39,7 +39,7 @@ pub fn words(call: u64) -> usize
         6 | 7 => 0,
         35 => 1,
         34 => 2,
-        29 | 32 => 3,
+        29 | 32 | 33 => 3,
         30 | 31 => 4,
         28 => 6,
         1 | 2 | 5 | 10 | 11 | 14 | 15 => 3,
@@ -51,7 +51,7 @@ pub fn words(call: u64) -> usize
 // The word of a call that has to be a u32: its depth, its bits or the number of a step; 0 where it has none.
 fn narrow(call: u64, words: [u64; 6]) -> u64 {
     match call {
-        29 | 32 => 0,
+        29 | 32 | 33 => 0,
         30 | 31 => words[3],
         34 => words[1],
         _ => words[0],
@@ -214,7 +214,8 @@ fn remembered(
             levels,
             index,
         ),
-        _ => history::history_rebuild(plane, stride, width, rows, steps, levels, index),
+        32 => history::history_rebuild(plane, stride, width, rows, steps, levels, index),
+        _ => folding_code::history_fold(plane, stride, width, rows, steps, levels, index),
     }
 }
 

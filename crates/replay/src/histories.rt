@@ -71,6 +71,7 @@ fn write_all(call: u64, bytes: &mut [u8], b: &[i32], s: &[i32], l: &[i32], x: &[
     match call {
         31 => true,
         32 => slices::write_trimmed(bytes, x),
+        33 => write_memory(bytes, s, l, x),
         _ => slices::write_slice(bytes, b) && write_memory(bytes, s, l, x),
     }
 }
