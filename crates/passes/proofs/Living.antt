@@ -12,9 +12,9 @@
 --     zero-loaded                      what is loaded of the dead part
 --     live-bounded, side-least         what the rows leave is within 2^30; a side has at least four numbers
 --     live-block                       load, rows, the step between and columns over the live part are the definition
-use mathlib.Core.Path.{_≡_, refl, sym, ap, _∙_, subst}
+use mathlib.Core.Path.{_≡_, sym, ap, _∙_, subst}
 use mathlib.Core.Logic.{_⊎_, inl, inr}
-use mathlib.Core.Bool.{Bool, true, false, cond}
+use mathlib.Core.Bool.{Bool, true, false}
 use mathlib.Core.List.{List}
 use Prim.Native.Nat.{ℕ, _+_, _*_, _-_, _^_, _≤_, _<_}
 use native.Mathlib.Nat as N

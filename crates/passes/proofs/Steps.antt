@@ -1,11 +1,10 @@
 -- The passes one after the other, whoever runs them, and the sizes of what goes from one to the next. Assumes nothing.
 --     clamped-size             a clamped number is within 2^19
 --     scale-size               181 v + 128 of an accepted coefficient fits 32 bits; coefficient-size: so does 181 v
---     clamped-bounded, rows-bounded     what each stage leaves for the next
+--     clamped-bounded          what loading and the step between leave for the next stage
 --     area                     the work area is large enough
 --     shifts, passes-size      the shifts of every size; what the columns leave is within 2^30
---     whole-block              load, rows, the step between and columns are the definition
-use mathlib.Core.Path.{_≡_, sym, ap, _∙_, subst}
+use mathlib.Core.Path.{_≡_, sym, subst}
 use mathlib.Core.Bool.{Bool, true, false, _&&_, cond}
 use mathlib.Core.List.{List}
 use Prim.Native.Nat.{ℕ, zero, suc, _+_, _*_, _-_, _^_, _≤_, _<_}
@@ -21,7 +20,6 @@ use Rattle.whole.proofs.Range.{clamp-size, lowest-size, highest-size, in-range-
 use Rattle.whole.proofs.Tests.{below-at, and-left, and-right}
 use Rattle.whole.proofs.Fill.{within-tab}
 use Rattle.whole.proofs.Sums.{within-all}
-use Rattle.whole.proofs.Grid.{rows-same, cols-same}
 use Rattle.tables.specs.Kinds.{hasKind, horOf, verOf}
 use Rattle.tables.specs.Dense.{denseOf}
 use Rattle.tables.proofs.Kernels.{dense-size, cut-most}
@@ -56,19 +54,6 @@ coefficient-size v e = in-range-size 11864550 (negsuc 11864549) (pos 11864549) v
 -- ---- what each stage leaves for the next
 pub clamped-bounded : (depth w h : ℕ) (f g : ℕ → ℕ → ℤ) → depth ≤ 12 → Same w h f (λ r x. clampTo (depth + 7) (g r x)) → Bounded (2 ^ 19) w h f
 clamped-bounded depth w h f g d e r x a b = subst (λ (z : ℤ). natAbs z ≤ 2 ^ 19) (sym (e r x a b)) (clamped-size depth (g r x) d)
-
-pub rows-bounded : (n code w h : ℕ) (f g : ℕ → ℕ → ℤ) → hasKind n code ≡ true → Bounded (2 ^ 19) w h g → Same w h f (rowsBy (denseOf n code) w g) → Bounded (2 ^ 30) w h f
-rows-bounded n code w h f g k p e r x a b =
-    subst (λ (z : ℤ). natAbs z ≤ 2 ^ 30) (sym (e r x a b))
-    (within-all (2 ^ 30) (denseOf n code (tab w (g r))) (dense-size n code (tab w (g r)) k (within-tab (2 ^ 19) w (g r) (λ y q. p r y a q))) x)
-
--- ---- the whole block
-pub whole-block : (w h : ℕ) (K L : List ℤ → List ℤ) (m : ℤ → ℤ) (cs : ℕ → ℕ → ℤ) (a b c d : ℕ → ℕ → ℤ)
-    → Same w h a cs → Same w h b (rowsBy K w a) → Same w h c (λ r x. m (b r x)) → Same w h d (colsBy L h c)
-    → Same w h d (colsBy L h (λ r x. m (rowsBy K w cs r x)))
-whole-block w h K L m cs a b c d p q r s i x k l =
-    s i x k l
-    ∙ cols-same {f = c} {g = λ r x. m (rowsBy K w cs r x)} L (λ j y u v. r j y u v ∙ ap m (q j y u v ∙ rows-same {f = a} {g = cs} K p j y u v)) i x k l
 
 -- sh rows of sw need at most 1,024 numbers
 pub area : (a b : ℕ) {m n : ℕ} → m ≡ cut a → n ≡ cut b → m * n ≤ 1024

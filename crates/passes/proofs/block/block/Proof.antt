@@ -1,5 +1,5 @@
 -- `passes::block::block` meets its contract: the live part is found and loaded; rows, the step between, columns. Assumes nothing.
-use mathlib.Core.Path.{_≡_, refl, sym, ap, _∙_, subst}
+use mathlib.Core.Path.{_≡_, sym, ap, _∙_, subst}
 use mathlib.Core.Bool.{Bool}
 use mathlib.Core.List.{List}
 use Prim.Native.Nat.{ℕ, _+_, _*_, _%_, _^_, _≤_, _<_}
@@ -8,7 +8,7 @@ use native.Mathlib.Omega.{arith}
 use borrow.Author.Needs.{needs}
 use lib.IntN.{ℤ, pos}
 use lib.ListN.{length, getD}
-use Rattle.whole.specs.Grid.{gridOf, rowsBy, Same, Bounded}
+use Rattle.whole.specs.Grid.{gridOf, Bounded}
 use Rattle.tables.proofs.Kernels.{cut-most}
 use Rattle.passes.specs.Passes.{scaling, numberAt, loaded, settledTo, Scalable}
 use Rattle.passes.proofs.Steps.{clamped-bounded, area}

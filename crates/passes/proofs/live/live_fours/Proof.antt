@@ -1,6 +1,6 @@
 -- `passes::live::live_fours` meets its contract: the places from r on are 0 in the live lines. Assumes nothing.
-use mathlib.Core.Path.{_≡_, subst}
-use Prim.Native.Nat.{ℕ, _+_, _*_, _-_, _%_, _≤_, _<_}
+use mathlib.Core.Path.{_≡_}
+use Prim.Native.Nat.{_+_, _-_, _%_, _≤_}
 use native.Mathlib.Nat as N
 use native.Mathlib.Omega.{arith}
 use Rattle.passes.specs.Passes.{DeadFours}

@@ -1,7 +1,7 @@
--- `passes::live::live_lines` meets its contract: the last line first; then the lines after the fourth, tested as a whole; then one by one. Assumes nothing.
-use mathlib.Core.Path.{_≡_, sym, subst}
+-- `passes::live::live_lines` meets its contract: the lines after the fourth, tested as a whole, then one by one. Assumes nothing.
+use mathlib.Core.Path.{sym, subst}
 use mathlib.Core.List.{List}
-use Prim.Native.Nat.{ℕ, _+_, _*_, _-_, _≤_, _<_}
+use Prim.Native.Nat.{ℕ, _+_, _*_, _-_, _≤_}
 use native.Mathlib.Nat as N
 use native.Mathlib.Omega.{arith}
 use lib.Dec.{lit≤}

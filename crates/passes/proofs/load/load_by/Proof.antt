@@ -1,5 +1,5 @@
 -- `passes::load::load_by` meets its contract: after r turns the first r rows hold their live coefficients. Assumes nothing.
-use mathlib.Core.Path.{_≡_, refl, sym, ap, _∙_, subst}
+use mathlib.Core.Path.{_≡_, ap, _∙_}
 use Prim.Native.Nat.{ℕ, _+_, _*_, _-_, _≤_, _<_, zero-le}
 use native.Mathlib.Nat as N
 use native.Mathlib.Omega.{arith}
@@ -8,14 +8,13 @@ use lib.IntN.{ℤ, pos}
 use lib.ListN.{length, getD, take, drop}
 use mir.Syntax.{w32}
 use mir.Val.{toZ, ofZ}
-use mir.ValLaws.{toZ-ofZ}
 use Rattle.whole.specs.Numbers.{clamp, lowest}
 use Rattle.whole.specs.Sums.{tab}
 use Rattle.whole.proofs.Num.{back}
 use Rattle.whole.proofs.Cells.{row-in}
 use Rattle.whole.proofs.Fill.{tab-at}
 use Rattle.whole.proofs.Lent.{part-count, Rewriting, rewrite-start, rewrite-more}
-use Rattle.passes.specs.Passes.{scaling, Scalable}
+use Rattle.passes.specs.Passes.{scaling}
 use Rattle.passes.proofs.load.load_by.Statement.{statement}
 use Rattle.passes.proofs.load.load_by.Tie as tie
 
