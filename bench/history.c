@@ -1,6 +1,6 @@
 /* Histories of N remaining steps, for bench/history: one step, one undo, one withdrawal, one rebuild on each.
-   argv: N, and the call to run (step, undo, withdraw, rebuild, fold). The steps stand on blocks side by side, so that all are free;
-   for a fold they blink on one block. */
+   argv: N, and the call to run (step, undo, withdraw, rebuild, fold, joined). The steps stand on blocks side by side, so that all are
+   free; for a fold they blink on one block, each pair summing to zero; joined is a fold of steps on one block of which none cancels. */
 #include "panel.h"
 #include <stdio.h>
 #include <stdlib.h>
@@ -24,8 +24,8 @@ int main(int argc, char **argv) {
     panel_answer a = {0, 0, 0};
     for (k = 0; k < WIDTH * ROWS; k++) plane[k] = 100;
     for (k = 0; k < n; k++) {
-        int fold = !strcmp(what, "fold");
-        a = fold ? step(0, 0, k % 2 ? -1 : 1) : step(k / 64 * 4, k % 64 * 4, 1);
+        int fold = !strcmp(what, "fold"), joined = !strcmp(what, "joined");
+        a = fold ? step(0, 0, k % 2 ? -1 : 1) : joined ? step(0, 0, k == 0 || k % 2 ? 1 : -1) : step(k / 64 * 4, k % 64 * 4, 1);
         if (a.number) return 2;
     }
     if (!strcmp(what, "step") && n < 4096)
@@ -40,7 +40,7 @@ int main(int argc, char **argv) {
         a = panel_history_rebuild(plane, WIDTH * ROWS, WIDTH, WIDTH, ROWS, steps, PANEL_HISTORY_STEPS, levels, PANEL_HISTORY_LEVELS, index_,
                                   sizeof index_ / sizeof *index_);
 #ifdef FOLD
-    else if (!strcmp(what, "fold"))
+    else if (!strcmp(what, "fold") || !strcmp(what, "joined"))
         a = panel_history_fold(plane, WIDTH * ROWS, WIDTH, WIDTH, ROWS, steps, PANEL_HISTORY_STEPS, levels, PANEL_HISTORY_LEVELS, index_,
                                sizeof index_ / sizeof *index_);
 #endif
