@@ -1,6 +1,6 @@
 -- The recursive DCT of 16 is the flat one (document 01, "Port order", 2). Assumes nothing.
 --     recurse-16            of 16 numbers the two promises name one list
---     recurse-is-dct16      of a lent slice of 16 numbers: what `dct_recurse`, by its promise, leaves there is what `inv_dct16`, by its promise, leaves
+--     recurse-is-dct16      of a lent slice of 16 numbers: what `dct_recurse`, by its promise, leaves there is what `flat16`, by its promise, leaves
 use mathlib.Core.Path.{_≡_, sym, ap, _∙_}
 use mathlib.Core.List.{List}
 use lib.IntN.{ℤ}
