@@ -41,7 +41,8 @@ fn linked() -> Result<(), String> {
             archive.display(),
             match named {
                 Some(_) => "PANEL_LIB_DIR has to name the folder of libpanel.a, by its full path.",
-                None => "Make it with tools/archive of this repository, \
+                None =>
+                    "Make it with tools/archive of this repository, \
                          or set PANEL_LIB_DIR to the full path of the folder that has libpanel.a.",
             }
         ));

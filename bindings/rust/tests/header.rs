@@ -136,6 +136,8 @@ fn the_memory_of_a_history_is_that_of_the_header() {
     assert_eq!(panel::history_index(usize::MAX, usize::MAX), usize::MAX);
 }
 
+type Words = fn(u32) -> &'static str;
+
 /// The sentences of a function of panel_words.h, and that of its default.
 fn sentences(header: &str, function: &str) -> (BTreeMap<u32, String>, String) {
     let from = header.find(function).expect("the function");
@@ -154,9 +156,9 @@ fn sentences(header: &str, function: &str) -> (BTreeMap<u32, String>, String) {
 #[test]
 fn every_sentence_is_that_of_the_header() {
     let header = text("include/panel_words.h");
-    let functions: [(&str, fn(u32) -> &'static str, usize); 2] =
-        [("panel_refusal_words(", panel::refusal_words, 16), ("panel_slice_words(", panel::slice_words, 6)];
-    for (function, here, least) in functions {
+    let refusals: Words = panel::refusal_words;
+    let slices: Words = panel::slice_words;
+    for (function, here, least) in [("panel_refusal_words(", refusals, 16), ("panel_slice_words(", slices, 6)] {
         let (cases, default) = sentences(&header, function);
         assert!(cases.len() >= least, "{} sentences of {} were read", cases.len(), function);
         for number in (0..100).chain([u32::MAX]) {
@@ -187,15 +189,10 @@ fn the_sizes_are_those_of_the_port() {
     assert_eq!(here, constants(&text("crates/tables/src/tx_size.rt")));
 }
 
-/// `Box<dyn Error>` takes a refusal where the compiler has `core::error::Error`; build.rs tells the crate so, not this test.
+/// Where the compiler has `core::error::Error`, which build.rs finds out.
+#[cfg(panel_core_error)]
 #[test]
-fn a_refusal_is_an_error_where_the_compiler_has_it() {
-    let version = std::process::Command::new(option_env!("RUSTC").unwrap_or("rustc")).arg("--version").output();
-    let version = version.map(|said| String::from_utf8_lossy(&said.stdout).into_owned()).unwrap_or_default();
-    println!("{}", version.trim());
-    #[cfg(panel_core_error)]
-    {
-        let error: Box<dyn std::error::Error> = Box::new(panel::Refusal { number: 1, slice: 0, place: 0 });
-        assert!(error.to_string().starts_with("The bit depth"));
-    }
+fn a_refusal_is_an_error() {
+    let error: Box<dyn std::error::Error> = Box::new(panel::Refusal { number: 1, slice: 0, place: 0 });
+    assert!(error.to_string().starts_with("The bit depth"));
 }
