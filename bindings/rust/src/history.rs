@@ -79,7 +79,7 @@ pub struct Area {
 /// );
 /// assert!(HISTORY.lock().unwrap().is_empty());
 /// ```
-#[derive(Clone, Copy, Debug, PartialEq, Eq, Hash)]
+#[derive(Clone, Debug, PartialEq, Eq)]
 pub struct History<S, L, I> {
     area: Area,
     steps: S,
