@@ -11,7 +11,6 @@ use mathlib.Core.List.{List}
 use Prim.Native.Nat.{ℕ}
 use lib.IntN.{ℤ}
 use lib.ListN.{length}
-use Rattle.answers.specs.declared.Answer.{Answer}
 use Rattle.answers.specs.Answers.{done, refused, unless}
 use Rattle.answers.proofs.Verdicts.{left, one-outcome}
 use Rattle.remain.specs.Remaining.{Entry, count, entries, marks}
@@ -19,7 +18,7 @@ use Rattle.remain.specs.Touch.{indexOf}
 use Rattle.keeping.specs.Range.{Area, kept}
 use Rattle.history.specs.Calls.{Lent}
 use Rattle.reached.specs.Holds.{Good}
-use Rattle.folding.specs.Fold.{Folded, nothing, once, folded, foldedFair, threeOf, stepsFolded, levelsFolded, passOf, foldOf}
+use Rattle.folding.specs.Fold.{nothing, once, folded, foldedFair, threeOf, stepsFolded, levelsFolded, passOf, foldOf}
 use Rattle.folding.specs.Led.{Led}
 use Rattle.folding.proofs.Led.{led-good, no-pair}
 use Rattle.folding.proofs.RuleFair.{pass-is-fold}

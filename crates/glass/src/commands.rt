@@ -10,7 +10,6 @@ ghost use Rattle.screen.specs.Screens.{Sound, Back, Held, Onward};
 ghost use Rattle.screen.specs.Steps.{entryAt, backOf};
 use crate::picture;
 use crate::say;
-use kernels::sums::copy;
 use screen::Screen;
 use screen::plane;
 use screen::plane::natural;
@@ -242,7 +241,7 @@ pub fn keep(line: usize, s: Screen, room: &[i32], kept: &mut [i32]) -> Screen
     ensures { λ r. ⌜ Sound r × ((room past : List ℤ) → Held s room past → Held r room past) ⌝ }
 {
     let n = s.stride * s.height;
-    copy(&mut kept[..n], &room[..n]);
+    whole::copy(&mut kept[..n], &room[..n]);
     say::event(line, b"keep");
     Screen {
         stride: s.stride,

@@ -9,7 +9,7 @@ ghost use Rattle.answers.specs.Answers.{done};
 ghost use Rattle.keeping.specs.Range.{area, markOk, entryOk, kept, frontOf};
 ghost use Rattle.keeping.specs.Range.{shaped as Range·shaped, stands as Range·stands, sound as Range·sound};
 use answers::Answer;
-use lossless::front::between;
+use ranges::between;
 use remain::words::number_before;
 use remain::words::word;
 

@@ -1,17 +1,9 @@
 // The refusals 1, 5, 6 and 7, by the arguments alone.
 ghost use mathlib.Core.Path.{_≡_};
-ghost use mathlib.Core.Bool.{_&&_};
 ghost use Prim.Native.Nat.{_≤_};
-ghost use lib.Dec.{leb};
 ghost use Rattle.lossless.specs.Step.{place, attempt, fits, front};
 use answers::Answer;
-
-// Whether lo <= n <= hi.
-pub fn between(n: usize, lo: usize, hi: usize) -> bool
-    ensures { λ r. ⌜ r ≡ (leb lo n && leb n hi) ⌝ }
-{
-    lo <= n && n <= hi
-}
+use ranges::between;
 
 // Whether the block lies in the visible part of a plane of n samples. The tests before the sum keep it from wrapping.
 pub fn block_fits(n: usize, stride: usize, width: usize, row: usize, column: usize) -> bool

@@ -1,7 +1,7 @@
 -- One lane and four lanes agree. Both forms of `passes::block::inv_txfm_passes` promise `Leaves`. Assumes nothing.
 --     Leaves          what the promise says of the work area that a call leaves
 --     lanes-agree     two calls on the same block, in whichever forms, leave the same sw * sh numbers
-use mathlib.Core.Path.{_≡_, sym, _∙_}
+use mathlib.Core.Path.{sym, _∙_}
 use mathlib.Core.Bool.{Bool}
 use mathlib.Core.List.{List}
 use Prim.Native.Nat.{ℕ}

@@ -7,10 +7,8 @@ use mathlib.Core.Path.{_≡_, refl, sym, ap, _∙_, subst}
 use mathlib.Core.Bool.{true}
 use mathlib.Core.List.{List}
 use Prim.Native.Nat.{ℕ, _+_, _*_, _%_, _≤_, _<_}
-use native.Mathlib.Omega.{arith}
 use lib.IntN.{ℤ, pos, natAbs}
-use lib.ListN.{length, getD}
-use Rattle.whole.specs.Sums.{tab}
+use lib.ListN.{getD}
 use Rattle.whole.specs.Lanes.{Places}
 use Rattle.whole.specs.Grid.{rowsBy}
 use Rattle.whole.proofs.Cells.{cell-in, cell-inj}

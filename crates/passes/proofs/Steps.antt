@@ -24,8 +24,7 @@ use Rattle.tables.specs.Kinds.{hasKind, horOf, verOf}
 use Rattle.tables.specs.Dense.{denseOf}
 use Rattle.tables.proofs.Kernels.{dense-size, cut-most}
 use Rattle.tables.specs.Sizes.{sizeAt, cut, scaled}
-use Rattle.tables.specs.declared.size.Size.{Size}
-use Rattle.passes.specs.Passes.{clampTo, scalable, loaded, middleOf, passesOf, swOf, shOf, Block, Ready}
+use Rattle.passes.specs.Passes.{clampTo, scalable, loaded, middleOf, passesOf, swOf, shOf, Ready}
 
 pub clamped-size : (depth : ℕ) (z : ℤ) → depth ≤ 12 → natAbs (clampTo (depth + 7) z) ≤ 2 ^ 19
 clamped-size depth z h =

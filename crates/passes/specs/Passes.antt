@@ -19,7 +19,6 @@ use lib.IntN.{ℤ, pos, negsuc, _+ℤ_, _*ℤ_}
 use lib.ListN.{length, getD}
 use Rattle.whole.specs.Numbers.{inRange, clamp, floorDiv, roundShift, lowest, highest}
 use Rattle.whole.specs.Grid.{rowsBy, colsBy}
-use Rattle.tables.specs.declared.size.Size.{Size}
 use Rattle.tables.specs.Sizes.{sizeAt, cut, scaled}
 use Rattle.tables.specs.Kinds.{horOf, verOf, hasKind}
 use Rattle.tables.specs.Dense.{denseOf}

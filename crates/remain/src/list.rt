@@ -25,7 +25,7 @@ pub fn put_levels(l: &mut [i32], i: usize, level: &[i32])
 {
     let a = 16 * i;
     let e = a + 16;
-    kernels::sums::copy(&mut l[a..e], level);
+    whole::copy(&mut l[a..e], level);
 }
 
 // The numbers of steps from place a + 4 on, up to place e + 4, move down by 4.

@@ -6,7 +6,7 @@ ghost use Prim.Native.Nat.{_-_, _^_, _≤_};
 ghost use lib.IntN.{pos};
 ghost use lib.ListN.{length};
 ghost use Rattle.screen.specs.Screens.{Sound, Blank, possibleOf};
-use lossless::front::between;
+use ranges::between;
 
 pub mod plane;
 pub mod steps;

@@ -8,7 +8,6 @@ ghost use Rattle.screen.specs.Steps.{stepIn, gapsOf, levelsTo, entryTo, 
 use crate::plane;
 use crate::plane::natural;
 use answers::Answer;
-use kernels::sums::copy;
 
 // How many steps are remembered.
 pub const MOST: usize = 4096;
@@ -142,5 +141,5 @@ pub fn remember(past: &mut [i32], k: usize, entry: &[i32])
 {
     let a = 18 * k;
     let e = a + 18;
-    copy(&mut past[a..e], entry);
+    whole::copy(&mut past[a..e], entry);
 }

@@ -6,7 +6,7 @@ use mathlib.Core.Path.{_≡_, refl, sym, ap, _∙_, subst}
 use mathlib.Core.Logic.{_⊎_, inl, inr}
 use mathlib.Core.Bool.{Bool, true, false}
 use mathlib.Core.List.{List, [], _∷_}
-use Prim.Native.Nat.{ℕ, _+_, _-_, _≤_, _<_, zero-le}
+use Prim.Native.Nat.{ℕ, _+_, _≤_, _<_, zero-le}
 use native.Mathlib.Nat as N
 use native.Mathlib.Decide.{ℕ-discrete}
 use native.Mathlib.Omega.{arith}
@@ -20,7 +20,7 @@ use Rattle.whole.specs.Lanes.{col}
 use Rattle.whole.proofs.Inward.{mirror}
 use Rattle.whole.proofs.Cells.{under}
 use Rattle.whole.proofs.Fill.{filled-all}
-use Rattle.whole.proofs.Lanes.{col-length, col-at, col-set}
+use Rattle.whole.proofs.Lanes.{col-length, col-set}
 use Rattle.tables.specs.Dense.{firstOf}
 use Rattle.tables.proofs.First.{past, first-is, first-in, first-out, first-length}
 use Rattle.tables.proofs.Clearing.{Clearing, clear-start, clear-more}

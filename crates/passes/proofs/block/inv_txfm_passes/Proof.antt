@@ -1,8 +1,6 @@
 -- `passes::block::inv_txfm_passes` meets its contract: the block of the size number and the type number. Assumes nothing.
-use mathlib.Core.Path.{_≡_, refl, sym, ap, _∙_, subst}
-use Prim.Native.Nat.{ℕ, _≤_}
+use mathlib.Core.Path.{sym, subst}
 use borrow.Author.Needs.{needs}
-use lib.ListN.{length}
 use Rattle.whole.specs.Grid.{gridOf, Same}
 use Rattle.tables.specs.declared.size.Size.{Size}
 use Rattle.tables.specs.Sizes.{cut}

@@ -1,9 +1,8 @@
 -- `passes::block::rows` meets its contract: four rows at a time or one, the promise is the same. Assumes nothing.
-use mathlib.Core.Path.{_≡_, sym, subst}
+use mathlib.Core.Path.{_≡_, subst}
 use Prim.Native.Nat.{ℕ, _+_, _*_, _^_, _≤_}
 use native.Mathlib.Omega.{arith}
 use borrow.Author.Needs.{needs}
-use lib.Dec.{lit≤}
 use lib.ListN.{length}
 use Rattle.tables.specs.Dense.{firstDense}
 use Rattle.tables.proofs.Kernels.{cut-most}

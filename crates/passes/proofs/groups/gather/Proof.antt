@@ -1,17 +1,15 @@
 -- `passes::groups::gather` meets its contract: after i turns the first i records hold their numbers in every lane. Assumes nothing.
-use mathlib.Core.Path.{_≡_, refl}
-use mathlib.Core.List.{List}
-use Prim.Native.Nat.{ℕ, _+_, _*_, _-_, _≤_, _<_}
+use mathlib.Core.Path.{refl}
+use Prim.Native.Nat.{ℕ, _-_, _<_}
 use native.Mathlib.Omega.{arith}
 use lib.Dec.{lit<}
-use lib.IntN.{ℤ, pos}
-use lib.ListN.{length, getD, take}
-use borrow.Author.Needs.{needs, scaled-fits}
+use lib.IntN.{pos}
+use lib.ListN.{length, getD}
+use borrow.Author.Needs.{scaled-fits}
 use Rattle.whole.specs.Sums.{tab}
 use Rattle.whole.specs.Lanes.{spot}
 use Rattle.whole.proofs.Num.{back}
 use Rattle.whole.proofs.Groups.{LaneFill, lanes-start, lanes-more, lanes-done}
-use Rattle.lanes.specs.declared.Lane.{Lane}
 use Rattle.lanes.specs.View.{lane}
 use Rattle.lanes.proofs.Fours.{four-agree}
 use Rattle.passes.proofs.groups.gather.Statement.{statement}

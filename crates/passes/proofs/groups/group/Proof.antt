@@ -1,5 +1,5 @@
 -- `passes::groups::group` meets its contract: the live numbers of four lines are gathered, put through the kernel, and put back. Assumes nothing.
-use mathlib.Core.Path.{_≡_, refl, sym, ap, _∙_, subst}
+use mathlib.Core.Path.{_≡_, sym, ap, _∙_, subst}
 use mathlib.Core.List.{List}
 use Prim.Native.Nat.{ℕ, _^_, _≤_, _<_}
 use native.Mathlib.Nat as N
@@ -15,7 +15,7 @@ use Rattle.whole.proofs.Fill.{tab-at}
 use Rattle.whole.proofs.Lanes.{col-length}
 use Rattle.whole.proofs.Groups.{group-within}
 use Rattle.tables.specs.Sizes.{cut}
-use Rattle.tables.specs.Dense.{firstOf, denseOf, firstDense}
+use Rattle.tables.specs.Dense.{firstOf, firstDense}
 use Rattle.tables.proofs.Kernels.{cut-most}
 use Rattle.tables.proofs.First.{first-within}
 use Rattle.lanes.specs.View.{lane, cols}

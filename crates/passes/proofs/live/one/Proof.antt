@@ -1,5 +1,5 @@
 -- `passes::live::one` meets its contract: a number with the bits of 0 is 0. Assumes nothing.
-use mathlib.Core.Path.{_≡_, sym, ap, _∙_}
+use mathlib.Core.Path.{sym, ap, _∙_}
 use Prim.Native.Nat.{zero-le}
 use native.Mathlib.Omega.{arith}
 use lib.Dec.{lit≤}

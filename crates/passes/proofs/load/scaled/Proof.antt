@@ -1,12 +1,10 @@
 -- `passes::load::scaled` meets its contract: the product, the sum and the shift, read back. Assumes nothing.
-use mathlib.Core.Path.{_≡_, refl, sym, ap, _∙_, subst}
-use Prim.Native.Nat.{_*_, _^_}
-use native.Mathlib.Nat.{lt-of-le-of-lt}
+use mathlib.Core.Path.{ap}
+use Prim.Native.Nat.{_*_}
 use lib.Dec.{lit<}
 use lib.IntN.{ℤ, pos, _+ℤ_, _*ℤ_}
-use lib.Signed.{shrZ}
 use mir.Syntax.{w32}
-use mir.Val.{SFits, toZ, ofZ}
+use mir.Val.{toZ, ofZ}
 use mir.ValLaws.{toZ-ofZ}
 use Rattle.whole.proofs.Num.{Num, lit, given, times, shifted, ask, read}
 use Rattle.passes.specs.Passes.{scaling}

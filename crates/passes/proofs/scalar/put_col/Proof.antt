@@ -1,5 +1,5 @@
 -- `passes::scalar::put_col` meets its contract: after r turns the first r rows have the column from the buffer. Assumes nothing.
-use Prim.Native.Nat.{ℕ, _+_, _*_, _-_, _≤_, _<_}
+use Prim.Native.Nat.{_+_, _*_, _-_, _<_}
 use native.Mathlib.Nat as N
 use native.Mathlib.Omega.{arith}
 use borrow.Author.Needs.{scaled-fits}

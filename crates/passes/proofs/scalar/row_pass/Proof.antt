@@ -1,10 +1,10 @@
 -- `passes::scalar::row_pass` meets its contract: after r turns the first r rows have gone through the kernel. Assumes nothing.
-use mathlib.Core.Path.{_≡_, sym, ap, _∙_, subst}
-use Prim.Native.Nat.{ℕ, _+_, _*_, _-_, _^_, _≤_, _<_}
+use mathlib.Core.Path.{ap, _∙_}
+use Prim.Native.Nat.{_+_, _*_, _-_, _≤_}
 use native.Mathlib.Nat as N
 use native.Mathlib.Omega.{arith}
-use lib.IntN.{ℤ, pos}
-use lib.ListN.{length, getD, take, drop}
+use lib.IntN.{pos}
+use lib.ListN.{length, getD}
 use Rattle.whole.specs.Grid.{gridOf}
 use Rattle.whole.proofs.Cells.{row-in}
 use Rattle.whole.proofs.Fill.{length-tab, tab-at}

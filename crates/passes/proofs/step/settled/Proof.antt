@@ -1,9 +1,7 @@
 -- `passes::step::settled` meets its contract: the rounding shift, and the clamp of it. Assumes nothing.
-use mathlib.Core.Path.{_≡_, refl, sym, ap, _∙_}
+use mathlib.Core.Path.{_∙_}
 use borrow.Author.Needs.{needs}
-use lib.IntN.{ℤ}
 use mir.Syntax.{w32}
-use mir.Val.{toZ, ofZ}
 use mir.ValLaws.{toZ-ofZ}
 use Rattle.whole.proofs.Num.{back}
 use Rattle.passes.proofs.step.settled.Statement.{statement}

@@ -1,14 +1,11 @@
 -- `passes::step::step` meets its contract: the first sw * sh numbers are lent as a part and settled. Assumes nothing.
-use mathlib.Core.Path.{_≡_, refl, sym, ap, _∙_, subst}
-use Prim.Native.Nat.{ℕ, _+_, _*_, _^_, _≤_, _<_}
+use mathlib.Core.Path.{sym, ap, _∙_}
+use Prim.Native.Nat.{_^_}
 use native.Mathlib.Nat as N
-use native.Mathlib.Omega.{arith}
 use borrow.Author.Needs.{needs}
-use lib.IntN.{ℤ, pos, natAbs}
-use lib.ListN.{length, getD, take, drop, length-take}
+use lib.ListN.{length-take}
 use mir.Syntax.{w32}
 use mir.Val.{toZ, ofZ}
-use mir.ValLaws.{toZ-ofZ}
 use Rattle.whole.specs.Numbers.{clamp, roundShift, lowest}
 use Rattle.whole.specs.Grid.{gridOf}
 use Rattle.whole.proofs.Num.{back}

@@ -1,9 +1,6 @@
 -- `tables::size::size_in_table` meets its contract: the table in the code is the table of the definition. Assumes nothing.
 use mathlib.Core.Path.{refl}
-use native.Mathlib.Omega.{arith}
 use borrow.Author.Needs.{needs}
-use lib.ListN.{getD}
-use Rattle.tables.specs.Sizes.{sizes, sizeAt}
 use Rattle.tables.proofs.size.size_in_table.Statement.{statement}
 use Rattle.tables.proofs.size.size_in_table.Tie as tie
 

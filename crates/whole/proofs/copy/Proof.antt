@@ -1,4 +1,4 @@
--- `kernels::sums::copy` meets its contract: the loop fills the places with the numbers of src. Assumes nothing.
+-- `whole::copy` meets its contract: the loop fills the places with the numbers of src. Assumes nothing.
 use mathlib.Core.Path.{_∙_}
 use Prim.Native.Nat.{_-_}
 use native.Mathlib.Omega.{arith}
@@ -6,9 +6,9 @@ use lib.IntN.{pos}
 use lib.ListN.{length, getD}
 use mir.Syntax.{w32}
 use mir.ValLaws.{toZ-ofZ}
 use Rattle.whole.proofs.Fill.{Filling, fill-start, fill-more, fill-done, tab-list}
-use Rattle.kernels.proofs.sums.copy.Statement.{statement}
-use Rattle.kernels.proofs.sums.copy.Tie as tie
+use Rattle.whole.proofs.copy.Statement.{statement}
+use Rattle.whole.proofs.copy.Tie as tie
 
 abbrev Inv-loop : tie.InvT-loop
 Inv-loop dst₀ src i₀ dst i = Filling (pos 0) (length src) (λ k. getD src k (pos 0)) dst i

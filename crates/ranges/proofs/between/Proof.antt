@@ -1,7 +1,7 @@
--- `lossless::front::between` meets its contract: the two tests. Assumes nothing.
+-- `ranges::between` meets its contract: the two tests. Assumes nothing.
 use borrow.Author.Tests.{le-leb, lt-leb}
-use Rattle.lossless.proofs.front.between.Statement.{statement}
-use Rattle.lossless.proofs.front.between.Tie as tie
+use Rattle.ranges.proofs.between.Statement.{statement}
+use Rattle.ranges.proofs.between.Tie as tie
 
 returns : tie.Need-returns
 returns c = rw (le-leb (c .before .args .lo) (c .before .args .n) (c .if1 .taken))
