@@ -18,7 +18,8 @@ use Rattle.remain.specs.Touch.{indexOf}
 use Rattle.keeping.specs.Range.{Area, kept}
 use Rattle.history.specs.Calls.{Lent}
 use Rattle.reached.specs.Holds.{Good}
-use Rattle.folding.specs.Fold.{nothing, once, folded, foldedFair, threeOf, stepsFolded, levelsFolded, passOf, foldOf}
+use Rattle.folding.specs.Fold.{nothing, once, folded, foldedFair, threeOf, stepsFolded, levelsFolded, foldOf}
+use Rattle.folding.specs.Pass.{passOf}
 use Rattle.folding.specs.Led.{Led}
 use Rattle.folding.proofs.Led.{led-good, no-pair}
 use Rattle.folding.proofs.RuleFair.{pass-is-fold}

@@ -25,7 +25,8 @@ use Rattle.keeping.specs.Range.{Area, shaped, sound}
 use Rattle.history.specs.Calls.{Lent}
 use Rattle.keeping.specs.Bounds.{Keeping}
 use Rattle.keeping.proofs.Facts.{sound-is}
-use Rattle.folding.specs.Fold.{onePass, passFair, stepsPut, stepsFolded, levelsFolded, Folded, threeOf, foldVerdict, passOf, foldOf}
+use Rattle.folding.specs.Fold.{stepsPut, stepsFolded, levelsFolded, Folded, threeOf, foldOf}
+use Rattle.folding.specs.Pass.{onePass, passFair, foldVerdict, passOf}
 use Rattle.reached.proofs.Entries.{put-is}
 use Rattle.folding.proofs.Fair.{pass-fair}
 use Rattle.folding.proofs.FoldCall.{count-folded}

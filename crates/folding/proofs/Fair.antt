@@ -26,7 +26,8 @@ use Rattle.keeping.specs.Steps.{stepIn, stepsIn}
 use Rattle.lossless.specs.Replay.{Replay, more}
 use Rattle.keeping.specs.Range.{Area}
 use Rattle.reached.proofs.Blocks.{blocks-apart}
-use Rattle.folding.specs.Fold.{meets, alike, summed, sizes, joinFair, onePass, passFair}
+use Rattle.folding.specs.Fold.{meets, alike, summed, sizes, joinFair}
+use Rattle.folding.specs.Pass.{onePass, passFair}
 use Rattle.folding.proofs.OnePass.{alike-is}
 use Rattle.folding.proofs.Replayed.{first, good-last, neighbours, column-fits, same-step, pass-taken}
 

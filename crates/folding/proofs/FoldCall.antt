@@ -21,7 +21,8 @@ use Rattle.keeping.specs.Range.{Area, kept}
 use Rattle.keeping.specs.Bounds.{Keeping}
 use Rattle.keeping.proofs.Facts.{shape-is, entered}
 use Rattle.keeping.proofs.Verdicts.{kept-stops, kept-opens}
-use Rattle.folding.specs.Fold.{onePass, passFair, stepsPut, stepsFolded, foldVerdict}
+use Rattle.folding.specs.Fold.{stepsPut, stepsFolded}
+use Rattle.folding.specs.Pass.{onePass, passFair, foldVerdict}
 use Rattle.folding.specs.Owners.{owner, Listed, Owned}
 use Rattle.folding.proofs.Writes.{steps-long, groups-most}
 

@@ -37,7 +37,8 @@ use Rattle.keeping.specs.Bounds.{Keeping}
 use Rattle.keeping.specs.Steps.{stepIn, stepsIn}
 use Rattle.lossless.specs.Replay.{Replay}
 use Rattle.keeping.proofs.Facts.{within-is, entered, lying-is}
-use Rattle.folding.specs.Fold.{Perhaps, isZero, summed, sizes, joins, joinFair, placed, onePass, passFair, stepsPut, stepsFolded, levelsFolded, Folded, threeOf, foldVerdict, passOf, foldOf}
+use Rattle.folding.specs.Fold.{Perhaps, isZero, summed, sizes, joins, joinFair, stepsPut, stepsFolded, levelsFolded, Folded, threeOf, foldOf}
+use Rattle.folding.specs.Pass.{placed, onePass, passFair, foldVerdict, passOf}
 use Rattle.reached.proofs.Entries.{entries-added}
 use Rattle.folding.proofs.FoldCall.{count-folded}
 use Rattle.folding.proofs.OnePass.{Paired, here, past, Joined, alone, paired, joined, paired-length}

@@ -19,7 +19,8 @@ use Rattle.whole.proofs.Tests.{both}
 use Rattle.remain.specs.Remaining.{Entry}
 use Rattle.remain.specs.Touch.{shares}
 use Rattle.reached.proofs.Blocks.{shares-swap}
-use Rattle.folding.specs.Fold.{Perhaps, nothing, just, meets, alike, isZero, summed, merged, behind, joins, orElse, once, orStay, folding, folded, placed, onePass}
+use Rattle.folding.specs.Fold.{Perhaps, nothing, just, meets, alike, isZero, summed, merged, behind, joins, orElse, once, orStay, folding, folded}
+use Rattle.folding.specs.Pass.{placed, onePass}
 
 -- e has no partner in ts
 pub data Alone (e : Entry) : List Entry → Type 0 where

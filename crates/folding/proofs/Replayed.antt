@@ -39,7 +39,8 @@ use Rattle.keeping.specs.Steps.{stepIn, stepsIn}
 use Rattle.reached.proofs.Blocks.{blocks-apart}
 use Rattle.lossless.specs.Replay.{Apart, Replay, start, more}
 use Rattle.lossless.proofs.Withdrawals.{was, left, steps-exchange}
-use Rattle.folding.specs.Fold.{Perhaps, isZero, summed, joins, placed, onePass}
+use Rattle.folding.specs.Fold.{Perhaps, isZero, summed, joins}
+use Rattle.folding.specs.Pass.{placed, onePass}
 use Rattle.folding.proofs.OnePass.{Paired, here, past, Joined, alone, paired, joined, Same, alike-is}
 
 -- ---- gains that add up

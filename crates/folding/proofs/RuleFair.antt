@@ -14,7 +14,8 @@ use Rattle.answers.specs.Answers.{done, refused, unless, ends}
 use Rattle.remain.specs.Remaining.{Entry, count, entries, marks}
 use Rattle.remain.specs.Touch.{indexOf}
 use Rattle.keeping.specs.Range.{Area, kept}
-use Rattle.folding.specs.Fold.{just, joins, joinFair, once, orElse, orFair, thenFair, onceFair, foldingFair, foldedFair, placed, onePass, passFair, threeOf, stepsFolded, levelsFolded, passOf, foldOf}
+use Rattle.folding.specs.Fold.{just, joins, joinFair, once, orElse, orFair, thenFair, onceFair, foldingFair, foldedFair, threeOf, stepsFolded, levelsFolded, foldOf}
+use Rattle.folding.specs.Pass.{placed, onePass, passFair, passOf}
 use Rattle.folding.proofs.OnePass.{Alone, none, other, past, Joined, alone, paired, joined, Settled, empty, next, once-none, paired-length, join-settled, settled-pass, rule-is-pass}
 
 alone-fair : {e : Entry} {ts : List Entry} → Alone e ts → joinFair e ts ≡ true

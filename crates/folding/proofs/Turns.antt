@@ -28,7 +28,8 @@ use Rattle.wht.proofs.Size.{iwht-size}
 use Rattle.lossless.specs.Gains.{numbers}
 use Rattle.remain.specs.Remaining.{Entry, word, markAt, levelsAt, entryAt, entries, last}
 use Rattle.remain.specs.Touch.{touches}
-use Rattle.folding.specs.Fold.{Perhaps, nothing, just, isZero, sizes, joins, joinFair, placed, onePass, passFair}
+use Rattle.folding.specs.Fold.{Perhaps, nothing, just, isZero, sizes, joins, joinFair}
+use Rattle.folding.specs.Pass.{placed, onePass, passFair}
 use Rattle.folding.specs.Owners.{owner, total, sumOf, groups, partner, alikeAt, Listed, Owned, Placed}
 use Rattle.folding.proofs.Owners.{total-by, total-none, total-more, total-past, groups-same, groups-more, groups-past, entry-back, fair-by, here-by}
 

@@ -19,7 +19,8 @@ use Rattle.wht.specs.Wht.{fwht}
 use Rattle.wht.specs.Calls.{Sixteen}
 use Rattle.wht.proofs.Inverse.{fwht-length}
 use Rattle.remain.specs.Remaining.{mark, Entry, word, levelsAt, entries, putMark, putOn}
-use Rattle.folding.specs.Fold.{onePass, stepsPut, stepsFolded, levelsFolded}
+use Rattle.folding.specs.Fold.{stepsPut, stepsFolded, levelsFolded}
+use Rattle.folding.specs.Pass.{onePass}
 use Rattle.folding.specs.Owners.{owner, total, sumOf, groupAt, groups, Listed, Owned, Puts, Put}
 use Rattle.reached.proofs.Entries.{whole, levels-after}
 use Rattle.folding.proofs.Owners.{total-by, groups-more, groups-past}

@@ -6,8 +6,7 @@
 --     folded ts        until no pair is left. Each makes the list shorter, so as many as the list is long are enough
 --     joinFair e ts    the sum of e and its partner is at most 2^depth - 1 in size
 --     onceFair, foldingFair, foldedFair    the sum of one folding, of n, of all
---     onePass, passFair    the same in one pass from the oldest step on
---     foldOf           the whole call; passOf the same by the pass
+--     foldOf           the whole call
 use mathlib.Core.Bool.{Bool, true, cond, _&&_}
 use mathlib.Core.List.{List, [], _∷_}
 use Prim.Native.Nat.{ℕ, zero, suc, _+_, _*_}
@@ -103,19 +102,6 @@ foldingFair (suc n) ts = onceFair ts && thenFair (once ts) (foldingFair n)
 unfoldable pub foldedFair : List Entry → Bool
 foldedFair ts = foldingFair (length ts) ts
 
--- ---- in one pass
-abbrev pub placed : Entry → List Entry → Perhaps (List Entry) → List Entry
-placed e ts nothing = e ∷ ts
-placed e ts (just us) = us
-
-unfoldable pub onePass : List Entry → List Entry
-onePass [] = []
-onePass (e ∷ ts) = placed e (onePass ts) (joins e (onePass ts))
-
-unfoldable pub passFair : List Entry → Bool
-passFair [] = true
-passFair (e ∷ ts) = passFair ts && joinFair e (onePass ts)
-
 -- ---- the call. The folded steps are written in their order from the first place on, numbered from 1; what lies behind them in memory stays
 abbrev pub stepsPut : List Entry → List ℕ → List ℕ
 stepsPut [] s = s
@@ -128,9 +114,6 @@ abbrev pub levelsFolded : List Entry → List ℤ → List ℤ
 levelsFolded [] l = l
 levelsFolded (e ∷ ts) l = putOn (16 * length ts) (e .levels) 16 (levelsFolded ts l)
 
-abbrev pub foldVerdict : Area → List ℕ → List ℤ → ℕ → Answer
-foldVerdict a s l k = kept a s l k (unless (passFair (entries s l (count s))) (refused 12 0 0) done)
-
 pub record Folded : Type 0 where
   pub steps : List ℕ
   pub levels : List ℤ
@@ -139,13 +122,6 @@ pub record Folded : Type 0 where
 abbrev pub threeOf : List ℕ → List ℤ → List ℕ → Folded
 threeOf s l x = record { steps = s; levels = l; index = x }
 
-unfoldable pub passOf : Area → List ℕ → List ℤ → List ℕ → Answer × Folded
-passOf a s l x =
-    let us = onePass (entries s l (count s)) in
-    ends (foldVerdict a s l (length x)) (threeOf s l x)
-    (threeOf (stepsFolded us s) (levelsFolded us l) (indexOf (a .width) (a .rows) (marks (stepsFolded us s) (length us))))
-
--- the call, by the rule
 unfoldable pub foldOf : Area → List ℕ → List ℤ → List ℕ → Answer × Folded
 foldOf a s l x =
     let ts = entries s l (count s) in

@@ -22,7 +22,7 @@ use Rattle.wht.specs.Calls.{Sixteen}
 use Rattle.lossless.specs.Gains.{numbers}
 use Rattle.remain.specs.Remaining.{Entry, mark, word, markAt, levelsAt, entries, last, putMark, putOn}
 use Rattle.remain.specs.Touch.{touches}
-use Rattle.folding.specs.Fold.{onePass, passFair}
+use Rattle.folding.specs.Pass.{onePass, passFair}
 
 abbrev pub owner : List ℕ → ℕ → ℕ
 owner o j = getD o j 0

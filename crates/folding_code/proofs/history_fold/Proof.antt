@@ -18,7 +18,8 @@ use Rattle.remain.specs.Bounds.{Lying}
 use Rattle.keeping.specs.Range.{Area, area, kept}
 use Rattle.keeping.specs.Bounds.{Keeping}
 use Rattle.keeping.proofs.Facts.{shape-is, kept-is}
-use Rattle.folding.specs.Fold.{Folded, threeOf, onePass, passFair, stepsFolded, levelsFolded, passOf}
+use Rattle.folding.specs.Fold.{Folded, threeOf, stepsFolded, levelsFolded}
+use Rattle.folding.specs.Pass.{onePass, passFair, passOf}
 use Rattle.folding.proofs.RuleFair.{pass-is-fold}
 use Rattle.folding.proofs.Folds.{fold-lying}
 use Rattle.folding.specs.Owners.{Listed, Owned}
