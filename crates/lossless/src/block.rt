@@ -13,7 +13,7 @@ ghost use Rattle.lossless.specs.Bounds.{Addable};
 use answers::Answer;
 
 // The index of the block's sample k.
-fn spot_of(start: usize, stride: usize, k: usize) -> usize
+pub fn spot_of(start: usize, stride: usize, k: usize) -> usize
     requires { ⌜ (k < 16) × (start + 3 * stride + 4 < 2 ^ 64) ⌝ }
     ensures { λ r. ⌜ r ≡ cellAt start stride 4 k ⌝ }
 {

@@ -1,0 +1,2 @@
+-- The add call on planes of bytes.
+pub mod Bytes

@@ -1,0 +1,24 @@
+-- The lossless step and its undo on a plane of bytes, from document 02, section 4. Definitions only.
+--     onBytes           a call of the wide plane, on bytes: every depth but 8 is refusal 1; at depth 8 it is the wide call over the same numbers,
+--                       read back as bytes
+--     stepBytes, undoBytes    the step and the undo so
+use mathlib.Core.List.{List, map}
+use Prim.Native.Nat.{ℕ}
+use lib.Dec.{eqb}
+use lib.IntN.{ℤ, pos, natAbs}
+use Rattle.answers.specs.declared.Answer.{Answer}
+use Rattle.answers.specs.Answers.{refused, unless}
+use Rattle.lossless.specs.Step.{Step, stepOf, undoOf}
+
+-- an answer and a plane of numbers, the plane read back as bytes
+abbrev pub readBack : Answer × List ℤ → Answer × List ℕ
+readBack x = (x .0, map natAbs (x .1))
+
+abbrev pub onBytes : (List ℤ → Step → Answer × List ℤ) → List ℕ → Step → Answer × List ℕ
+onBytes call b s = unless (eqb (s .at .depth) 8) (refused 1 0 0, b) (readBack (call (map pos b) s))
+
+abbrev pub stepBytes : List ℕ → Step → Answer × List ℕ
+stepBytes = onBytes stepOf
+
+abbrev pub undoBytes : List ℕ → Step → Answer × List ℕ
+undoBytes = onBytes undoOf
