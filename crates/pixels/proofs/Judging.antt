@@ -2,7 +2,8 @@
 --     flat-search, coeff-none     the search over sw rows of sh coefficients is the search over all of them; where any number passes, none is found
 --     scalable-all                a coefficient that the call accepts may be scaled
 --     Kinds, kinds-passed, kinds-opens, kinds-stays     refusals 1 to 4: what an answer of Done tells, when they pass, that they don't depend on what follows
---     Reach, Room, plane-passed, plane-opens, buffers-passed, buffers-opens     so of refusals 5 and 6
+--     Reach, Room, plane-passed, plane-opens, plane-stays, buffers-passed, buffers-opens     so of refusals 5 and 6
+--     AllFound, coefficients-passed, -opens, -stays, -scalable     so of refusal 7; coefficients that pass may be scaled
 --     add-front, float-front      where refusals 1 to 6 pass, the rest is the verdict
 --     Plane, Buffers, add-passed, float-passed     what a verdict of Done tells of the whole call; ready: an accepted block is ready for the passes
 --     sides, last-row             the sides of a size; a plane that reaches the last row reaches every row
@@ -26,13 +27,13 @@ use Rattle.whole.proofs.Cells.{cell-place, cell-in}
 use Rattle.whole.proofs.Tests.{both, and-true, and-left, and-right, below-at}
 use Rattle.answers.specs.declared.Answer.{Answer}
 use Rattle.answers.specs.Answers.{done, refused}
-use Rattle.answers.proofs.Verdicts.{passed, search-passed, stays}
+use Rattle.answers.proofs.Verdicts.{passed, search-passed, search-opens, stays}
 use Rattle.ranges.specs.Cells.{cellOk}
 use Rattle.tables.specs.Sizes.{cut, scaled}
 use Rattle.tables.specs.Kinds.{horOf, verOf, hasKind}
 use Rattle.passes.specs.Passes.{scalable, Scalable, Ready}
 use Rattle.passes.proofs.Steps.{shifts}
-use Rattle.pixels.specs.Calls.{wOf, hOf, Sides, kinds, coeffOk, samples, numbers, onPlane, addFront, addVerdict, onBuffers, floatFront, floatVerdict}
+use Rattle.pixels.specs.Calls.{wOf, hOf, Sides, kinds, coeffOk, coefficients, samples, numbers, onPlane, addFront, addVerdict, onBuffers, floatFront, floatVerdict}
 
 -- ---- coefficients
 flat-cell : (w k : ℕ) → cellAt 0 w w k ≡ k
@@ -138,6 +139,12 @@ module _ (w h room : ℕ) where
   plane-opens stride count rest r =
       rw (le-leb w stride (r .wide), le-leb stride 65536 (r .most), le-leb (cut w * cut h) count (r .long), le-leb ((h - 1) * stride + w) room (r .reach))
 
+  pub plane-stays : (stride count : ℕ) (rest : Answer) → (onPlane w h room stride count done .number ≡ 0 → ⊥) → onPlane w h room stride count done ≡ onPlane w h room stride count rest
+  plane-stays stride count rest q =
+      sym (stays (leb w stride && leb stride 65536) (refused 5 0 0) _ _ q (λ r.
+      stays (leb (cut w * cut h) count) (refused 6 1 0) _ _ r (λ r.
+      stays (leb ((h - 1) * stride + w) room) (refused 6 2 0) done rest r (λ r. absurd (r refl)))))
+
   pub buffers-passed : (count known : ℕ) (rest : Answer) → onBuffers w h room count known rest .number ≡ 0 → Room w h room count known × (rest .number ≡ 0)
   buffers-passed count known rest e =
       let b = passed (leb (cut w * cut h) count) 5 1 0 _ e in
@@ -147,6 +154,30 @@ module _ (w h room : ℕ) where
 
   pub buffers-opens : (count known : ℕ) (rest : Answer) → Room w h room count known → onBuffers w h room count known rest ≡ rest
   buffers-opens count known rest r = rw (le-leb (cut w * cut h) count (r .long), le-leb (h * w) known (r .known), le-leb (h * w) room (r .space))
+
+-- ---- refusal 7
+module _ (refuses : Bool) (w h depth : ℕ) (cs : List ℤ) where
+  abbrev count : ℕ
+  count = cut w * cut h
+
+  abbrev found : ℕ
+  found = seek (coeffOk refuses (scaled w h) depth cs) 0 count
+
+  -- the search for one out of range came to the end
+  abbrev pub AllFound : Type 0
+  AllFound = count ≤ found
+
+  pub coefficients-passed : (rest : Answer) → coefficients refuses w h depth cs rest .number ≡ 0 → AllFound × (rest .number ≡ 0)
+  coefficients-passed rest = search-passed 6 1 count (λ k. k) found rest
+
+  pub coefficients-opens : (rest : Answer) → AllFound → coefficients refuses w h depth cs rest ≡ rest
+  coefficients-opens rest = search-opens 7 1 count (λ k. k) found rest
+
+  pub coefficients-stays : (rest : Answer) → (coefficients refuses w h depth cs done .number ≡ 0 → ⊥) → coefficients refuses w h depth cs done ≡ coefficients refuses w h depth cs rest
+  coefficients-stays rest q = sym (stays (leb count found) (refused 7 1 found) done rest q (λ r. absurd (r refl)))
+
+  pub coefficients-scalable : depth ≤ 12 → AllFound → Scalable (scaled w h) count cs
+  coefficients-scalable deep all = λ k l s. scalable-all refuses (scaled w h) depth deep cs k (seek-passed (coeffOk refuses (scaled w h) depth cs) count all k l) s
 
 -- ---- refusals 7 and 8: what an answer of Done tells
 pub record Numbers (w h depth : ℕ) (cs p : List ℤ) (stride : ℕ) : Type 0 where
@@ -164,13 +195,11 @@ pub record Buffers (w h depth : ℕ) (room : ℕ) (cs pred : List ℤ) : Type 0 
 module _ (refuses : Bool) (w h depth : ℕ) (deep : depth ≤ 12) where
   numbers-passed : (cs p : List ℤ) (stride : ℕ) → numbers refuses w h depth cs p stride .number ≡ 0 → Numbers w h depth cs p stride
   numbers-passed cs p stride e =
-      let n = cut w * cut h in
       let cell = cellOk (pos 0) (highest depth) p 0 stride w in
-      let found = seek (coeffOk refuses (scaled w h) depth cs) 0 n in
-      let a = passed (leb n found) 6 1 _ (samples w h depth p stride) e in
+      let a = coefficients-passed refuses w h depth cs (samples w h depth p stride) e in
       let b = search-passed 7 2 (h * w) (cellAt 0 stride w) (seek cell 0 (h * w)) done (a .1) in
       record {
-        coefficients = λ k l s. scalable-all refuses (scaled w h) depth deep cs k (seek-passed (coeffOk refuses (scaled w h) depth cs) n (leb-true n found (a .0)) k l) s;
+        coefficients = coefficients-scalable refuses w h depth cs deep (a .0);
         samples = λ r x l m. subst (λ (j : ℕ). natAbs (getD p j (pos 0)) ≤ 4096) (cell-place r m 0 stride ∙ ap (λ n. n + x) (N.zero-add (r * stride)))
             (in-range-size 4096 (pos 0) (highest depth) (getD p (cellAt 0 stride w (r * w + x)) (pos 0)) zero-le top (seek-passed cell (h * w) (b .0) (r * w + x) (cell-in l m (N.le-refl (h * w)))));
       }
