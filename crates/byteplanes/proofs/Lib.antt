@@ -1,4 +1,5 @@
--- Accepting: the verdict taken apart. Widened: the call and the wide call on a plane of the same values. Outcomes: what the promise gives.
+-- Accepting: the verdict taken apart. Small: blocks without a side of 64. Widened: the call and the wide call on a plane of the same values. Outcomes: what the promise gives.
 pub mod Accepting
+pub mod Small
 pub mod Widened
 pub mod Outcomes
