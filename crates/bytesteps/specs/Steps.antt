@@ -2,6 +2,8 @@
 --     onBytes           a call of the wide plane, on bytes: every depth but 8 is refusal 1; at depth 8 it is the wide call over the same numbers,
 --                       read back as bytes
 --     stepBytes, undoBytes    the step and the undo so
+--     callBytes         for statements: a step, or an undo
+use mathlib.Core.Bool.{cond}
 use mathlib.Core.List.{List, map}
 use Prim.Native.Nat.{ℕ}
 use lib.Dec.{eqb}
@@ -9,6 +11,7 @@ use lib.IntN.{ℤ, pos, natAbs}
 use Rattle.answers.specs.declared.Answer.{Answer}
 use Rattle.answers.specs.Answers.{refused, unless}
 use Rattle.lossless.specs.Step.{Step, stepOf, undoOf}
+use Rattle.lossless.specs.Pad.{Call}
 
 -- an answer and a plane of numbers, the plane read back as bytes
 abbrev pub readBack : Answer × List ℤ → Answer × List ℕ
@@ -22,3 +25,6 @@ stepBytes = onBytes stepOf
 
 abbrev pub undoBytes : List ℕ → Step → Answer × List ℕ
 undoBytes = onBytes undoOf
+
+abbrev pub callBytes : List ℕ → Call → Answer × List ℕ
+callBytes b c = cond (c .undo) (undoBytes b (c .step)) (stepBytes b (c .step))

@@ -51,9 +51,9 @@ returns c =
     let f = p .before .before in
     let s = f .before .before .before in
     ends-refused (
-      c .refusal .ensures ∙ ap (refused 10 2) (p .spot-of .ensures ∙ ap (Cell s) (f .first-leaving .ensures .0))
-          ∙ sym (no-eight (Cell s) (s .args .plane .now) (f .first-leaving .ensures .1) (G s)
-          ∙ search-stops 10 2 16 (Cell s) (seek (laterOk (sample 8) (Cell s) (Wide s) (G s)) 0 16) done (omega (arith, f .first-leaving .ensures .0, p .before .if1 .taken)))
+    c .refusal .ensures ∙ ap (refused 10 2) (p .spot-of .ensures ∙ ap (Cell s) (f .first-leaving .ensures .0))
+    ∙ sym (no-eight (Cell s) (s .args .plane .now) (f .first-leaving .ensures .1) (G s)
+    ∙ search-stops 10 2 16 (Cell s) (seek (laterOk (sample 8) (Cell s) (Wide s) (G s)) 0 16) done (omega (arith, f .first-leaving .ensures .0, p .before .if1 .taken)))
     ) (s .args .plane .now) (map natAbs (gained (Cell s) (G s) (Wide s))) (λ e. omega (arith, ap (λ (a : Answer). a .number) (c .refusal .ensures), e))
 
 add-requires : tie.Need-add-requires
@@ -72,8 +72,8 @@ returns-2 c =
     let f = e .before in
     let s = f .before .before .before in
     ends-done (
-      c .finished .ensures
-          ∙ sym (passed (sample 8) (Cell s) (Wide s) (G s) (record { present = present-bytes (Cell s) (s .args .plane .now) (f .first-leaving .ensures .1); later = later e }))
+    c .finished .ensures
+    ∙ sym (passed (sample 8) (Cell s) (Wide s) (G s) (record { present = present-bytes (Cell s) (s .args .plane .now) (f .first-leaving .ensures .1); later = later e }))
     ) (s .args .plane .now) (ap (λ (a : Answer). a .number) (c .finished .ensures)) (b .add .ensures)
 
 pub gain-spec : {M : Type 1} → statement M
