@@ -6,11 +6,10 @@ use mathlib.Core.Path.{_≡_, refl, sym, ap, _∙_, subst}
 use mathlib.Core.Bool.{Bool, true, false, _&&_, cond}
 use mathlib.Core.List.{List, map}
 use Prim.Native.Nat.{ℕ, _+_, _*_, _-_, _/_, _%_, _≤_, _<_}
-use native.Mathlib.Nat as N
 use native.Mathlib.Omega.{arith}
-use borrow.Author.Tests.{le-leb, eq-eqb}
+use borrow.Author.Tests.{le-leb}
 use lib.Dec.{T, eqb, leb}
-use lib.IntN.{ℤ, pos, natAbs, _+ℤ_}
+use lib.IntN.{ℤ, pos, natAbs}
 use lib.Signed.{nonNeg}
 use lib.ListN.{length, getD, length-map, List·getD-map}
 use Rattle.whole.specs.Numbers.{highest}
@@ -23,7 +22,7 @@ use Rattle.octets.specs.Octets.{Bytes}
 use Rattle.octets.proofs.Lists.{byte-plain, byte-is, bytes-all, bytes-back}
 use Rattle.answers.specs.declared.Answer.{Answer}
 use Rattle.answers.specs.Answers.{done, refused, unless, ends}
-use Rattle.answers.proofs.Verdicts.{opens, search-opens, either, search-either}
+use Rattle.answers.proofs.Verdicts.{search-opens, either, search-either}
 use Rattle.ranges.specs.Cells.{cellOk}
 use Rattle.tables.specs.Sizes.{cut, scaled}
 use Rattle.tables.specs.Kinds.{horOf, verOf, hasKind}

@@ -1,13 +1,13 @@
 -- From a present block of bytes to a wanted one leads exactly one list of levels: the wide theorem, read back. Assumes nothing.
 --     bytes-exists      it is a taken step, and the plane then shows the wanted bytes
 --     bytes-unique      no other list of levels is one
-use mathlib.Core.Path.{_≡_, refl, sym, ap, _∙_}
+use mathlib.Core.Path.{_≡_, sym, ap, _∙_}
 use mathlib.Core.Bool.{true, _&&_}
 use mathlib.Core.List.{List, map}
-use Prim.Native.Nat.{ℕ, _<_}
+use Prim.Native.Nat.{ℕ}
 use lib.Dec.{leb}
 use lib.IntN.{ℤ, pos, natAbs}
-use lib.ListN.{length, getD, length-map, List·getD-map}
+use lib.ListN.{getD, length-map, List·getD-map}
 use Rattle.answers.specs.declared.Answer.{Answer}
 use Rattle.answers.specs.Answers.{done}
 use Rattle.octets.specs.Octets.{Bytes}
@@ -15,7 +15,7 @@ use Rattle.octets.proofs.Lists.{byte-is, bytes-all}
 use Rattle.wht.specs.Wht.{fwht}
 use Rattle.lossless.specs.Gains.{numbers}
 use Rattle.lossless.specs.Step.{Where, spot, sample, fits, stepOf}
-use Rattle.lossless.specs.Wanted.{Ready, Samples, Shows, difference, stepWith}
+use Rattle.lossless.specs.Wanted.{Ready, Samples, difference, stepWith}
 use Rattle.lossless.proofs.Wanted.{exists, unique}
 use Rattle.bytesteps.specs.Steps.{stepBytes}
 use Rattle.bytesteps.specs.Wanted.{ReadyBytes, SixteenBytes, ShowsBytes, stepToBytes}

@@ -15,7 +15,7 @@ use borrow.Author.Tests.{eqb-true, eq-eqb, ne-eqb}
 use lib.Dec.{T, eqb}
 use lib.IntN.{ℤ, pos, negsuc, negℤ, natAbs, _+ℤ_, +ℤ-idr}
 use lib.Signed.{nonNeg}
-use lib.ListN.{length, getD, List·getD-map}
+use lib.ListN.{length, List·getD-map}
 use Rattle.whole.specs.Search.{seek}
 use Rattle.answers.specs.declared.Answer.{Answer}
 use Rattle.answers.specs.Answers.{done, refused}
@@ -24,7 +24,7 @@ use Rattle.octets.specs.Octets.{Bytes}
 use Rattle.octets.proofs.Lists.{bytes-all, numbers-back, bytes-back}
 use Rattle.wht.specs.Wht.{iwht}
 use Rattle.wht.specs.Calls.{numberOk}
-use Rattle.lossless.specs.Gains.{numbers, addOn, gain, gained, laterOk, leaves, samples, judged, gaining}
+use Rattle.lossless.specs.Gains.{numbers, gain, gained, laterOk, samples, judged, gaining}
 use Rattle.lossless.specs.Step.{Step, spot, sample, deep, strides, widths, fits, front, gainOf, stepOf, undoOf}
 use Rattle.lossless.proofs.Gains.{length-addOn, getD-addOn}
 use Rattle.lossless.proofs.Blocks.{Passes}

@@ -1,7 +1,6 @@
 -- `octets::byte` meets its contract: a number of 0 .. 255 has no sign and fits a byte. Assumes nothing.
 use mathlib.Core.Path.{ap}
 use native.Mathlib.Omega.{arith}
-use borrow.Author.Needs.{needs}
 use lib.IntN.{natAbs}
 use mir.Syntax.{w32}
 use mir.ValLaws.{toZ-ofZ}

@@ -1,5 +1,4 @@
 -- `octets::number` meets its contract: a byte's bits are below 2^31, so they are the number itself. Assumes nothing.
-use mathlib.Core.Path.{_≡_}
 use Prim.Native.Nat.{_<_}
 use native.Mathlib.Omega.{arith}
 use borrow.Author.Needs.{needs}

@@ -1,7 +1,6 @@
 -- `byteplanes::judge::judge_narrow` meets its contract: each test of the chain, in its order, is the code's. Assumes nothing.
-use mathlib.Core.Path.{_≡_, subst}
+use mathlib.Core.Path.{subst}
 use Prim.Native.Nat.{_≤_, _<_}
-use native.Mathlib.Omega.{arith}
 use borrow.Author.Needs.{needs}
 use borrow.Author.Tests.{lt-leb, le-leb, eq-eqb, ne-eqb}
 use Rattle.tables.specs.declared.size.Size.{Size}

@@ -1,6 +1,5 @@
 -- `bytesteps::block::nearer` meets its contract: the sum, read back, and its test. Assumes nothing.
 use mathlib.Core.Path.{_≡_, sym, ap, _∙_}
-use mathlib.Core.Bool.{Bool, true, cond}
 use borrow.Author.Needs.{needs}
 use lib.Dec.{lit<}
 use lib.IntN.{pos, _+ℤ_}

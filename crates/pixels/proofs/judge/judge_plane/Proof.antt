@@ -1,6 +1,5 @@
 -- `pixels::judge::judge_plane` meets its contract: refusals 5 and 6, then the numbers. Assumes nothing.
 use mathlib.Core.Path.{sym, ap, _∙_}
-use borrow.Author.Needs.{needs}
 use lib.ListN.{length}
 use Rattle.answers.specs.declared.Answer.{Answer}
 use Rattle.answers.specs.Answers.{done}
