@@ -16,8 +16,8 @@ use Rattle.answers.specs.Answers.{done, refused}
 use Rattle.answers.proofs.Verdicts.{passed, stays}
 use Rattle.tables.specs.Sizes.{cut, scaled}
 use Rattle.passes.specs.Passes.{Scalable}
-use Rattle.pixels.specs.Calls.{wOf, hOf, onPlane, coefficients}
-use Rattle.pixels.proofs.Judging.{Kinds, kinds-passed, kinds-opens, Reach, plane-passed, coefficients-passed, coefficients-scalable}
+use Rattle.verdicts.specs.Verdicts.{wOf, hOf, onPlane, coefficients}
+use Rattle.verdicts.proofs.Judging.{Kinds, kinds-passed, kinds-opens, Reach, plane-passed, coefficients-passed, coefficients-scalable}
 use Rattle.byteplanes.specs.Bytes.{narrow, bytesVerdict}
 
 pub record Narrow (tx depth : ℕ) : Type 0 where

@@ -16,7 +16,8 @@ use Rattle.whole.proofs.Fill.{tab-same}
 use Rattle.octets.proofs.Lists.{map-tab}
 use Rattle.tables.specs.Sizes.{cut}
 use Rattle.pixels.specs.Pixels.{repeats, residualOf, residualAt, pixelOf}
-use Rattle.pixels.specs.Calls.{wOf, hOf, added}
+use Rattle.verdicts.specs.Verdicts.{wOf, hOf}
+use Rattle.pixels.specs.Calls.{added}
 use Rattle.byteplanes.specs.Bytes.{byteOf}
 
 pub cut-whole : (n : ℕ) → n ≤ 32 → cut n ≡ n

@@ -27,7 +27,8 @@ use Rattle.ranges.specs.Cells.{cellOk}
 use Rattle.tables.specs.Sizes.{cut, scaled}
 use Rattle.tables.specs.Kinds.{horOf, verOf, hasKind}
 use Rattle.pixels.specs.Pixels.{residualAt, pixelOf}
-use Rattle.pixels.specs.Calls.{Reading, wOf, hOf, kinds, onPlane, coeffOk, coefficients, samples, addVerdict, added, addOf}
+use Rattle.verdicts.specs.Verdicts.{wOf, hOf, kinds, onPlane, coeffOk, coefficients, samples, addVerdict}
+use Rattle.pixels.specs.Calls.{Reading, added, addOf}
 use Rattle.byteplanes.specs.Bytes.{narrow, bytesVerdict, bytesOf}
 use Rattle.byteplanes.proofs.Accepting.{onward, bytes-passed}
 

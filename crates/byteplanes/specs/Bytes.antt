@@ -15,7 +15,8 @@ use Rattle.answers.specs.Answers.{done, refused, unless, ends}
 use Rattle.passes.specs.Passes.{passesOf}
 use Rattle.whole.specs.Search.{seek}
 use Rattle.pixels.specs.Pixels.{pixelOf}
-use Rattle.pixels.specs.Calls.{Reading, wOf, hOf, kinds, onPlane, coefficients, added}
+use Rattle.verdicts.specs.Verdicts.{wOf, hOf, kinds, onPlane, coefficients}
+use Rattle.pixels.specs.Calls.{Reading, added}
 
 abbrev pub narrow : ℕ → ℕ → Answer → Answer
 narrow tx depth rest =

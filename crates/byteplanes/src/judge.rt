@@ -40,14 +40,14 @@ pub fn judge(
     if a.number != 0 {
         return a;
     }
-    let b = pixels::judge::judge_kinds(txtp, tx, bd);
+    let b = verdicts::judge::judge_kinds(txtp, tx, bd);
     if b.number != 0 {
         return b;
     }
     let s = tables::size::size_of(tx);
-    let c = pixels::judge::judge_reach(room, stride, coeff.len(), s.w, s.h);
+    let c = verdicts::judge::judge_reach(room, stride, coeff.len(), s.w, s.h);
     if c.number != 0 {
         return c;
     }
-    pixels::judge::judge_coefficients(coeff, s.w, s.h, bd, strict)
+    verdicts::judge::judge_coefficients(coeff, s.w, s.h, bd, strict)
 }

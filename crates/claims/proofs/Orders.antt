@@ -8,7 +8,8 @@ use lib.Ieee
 use lib.Ieee.{Float}
 use lib.IntN.{ℤ}
 use Rattle.tables.specs.Sizes.{cut}
-use Rattle.pixels.specs.Calls.{strict, strictRows, Turned, wOf, hOf, addOf, floatOf}
+use Rattle.verdicts.specs.Verdicts.{wOf, hOf}
+use Rattle.pixels.specs.Calls.{strict, strictRows, Turned, addOf, floatOf}
 use Rattle.pixels.proofs.Turned.{add-turned, float-turned}
 
 module _ (tx txtp depth : ℕ) (cs ds : List ℤ) (turned : Turned (cut (wOf tx)) (cut (hOf tx)) cs ds) where

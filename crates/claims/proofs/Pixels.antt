@@ -27,9 +27,10 @@ use Rattle.tables.specs.Dense.{denseOf}
 use Rattle.passes.specs.Passes.{numberAt, entry, settledTo, passesOf, swOf, shOf}
 use Rattle.passes.proofs.Agreement.{Leaves, lanes-agree}
 use Rattle.pixels.specs.Pixels.{repeats, residualAt, pixelOf}
-use Rattle.pixels.specs.Calls.{Reading, wOf, hOf, addVerdict, added, addOf, Exact}
+use Rattle.verdicts.specs.Verdicts.{wOf, hOf, addVerdict}
+use Rattle.pixels.specs.Calls.{Reading, added, addOf, Exact}
 use Rattle.pixels.proofs.Floats.{exact-call}
-use Rattle.pixels.proofs.Judging.{add-passed, last-row}
+use Rattle.verdicts.proofs.Judging.{add-passed, last-row}
 use Rattle.pixels.proofs.Outcomes.{Adds, Fills, add-lanes, float-lanes}
 
 pub passes-lanes : (rowwise : Bool) (tx txtp depth : ℕ) (cs one four : List ℤ) → Leaves rowwise tx txtp depth cs one → Leaves rowwise tx txtp depth cs four → Same (swOf tx) (shOf tx) (gridOf (swOf tx) one) (gridOf (swOf tx) four)

@@ -21,7 +21,8 @@ use Rattle.answers.proofs.Verdicts.{either, search-either}
 use Rattle.ranges.specs.Cells.{cellOk}
 use Rattle.tables.specs.Sizes.{cut, scaled}
 use Rattle.tables.specs.Kinds.{horOf, verOf, hasKind}
-use Rattle.pixels.specs.Calls.{Reading, wOf, hOf, kinds, coeffOk, numbers, addVerdict, addOf, floatVerdict, floatOf}
+use Rattle.verdicts.specs.Verdicts.{wOf, hOf, kinds, coeffOk, numbers, addVerdict, floatVerdict}
+use Rattle.pixels.specs.Calls.{Reading, addOf, floatOf}
 use Rattle.chroma.specs.Chroma.{low, high, badOf, firstBad, angleOk, verdict, cctxOf}
 use Rattle.wht.specs.Calls.{numberOk, fwhtOf, iwhtOf}
 use Rattle.wht.specs.Calls as wht

@@ -12,7 +12,8 @@ use lib.IntN.{ℤ}
 use lib.ListN.{length}
 use Rattle.answers.specs.Answers.{done, refused}
 use Rattle.tables.specs.Sizes.{cut}
-use Rattle.pixels.specs.Calls.{strict, clamped, wOf, hOf, FirstOutside, addFront, addOf, floatFront, floatOf}
+use Rattle.verdicts.specs.Verdicts.{wOf, hOf, FirstOutside, addFront, floatFront}
+use Rattle.pixels.specs.Calls.{strict, clamped, addOf, floatOf}
 use Rattle.pixels.proofs.Strict.{add-accepts, add-seven, add-seven-only, float-accepts, float-seven, float-seven-only}
 
 module _ (dst : List ℤ) (stride : ℕ) (cs : List ℤ) (txtp tx depth : ℕ) where

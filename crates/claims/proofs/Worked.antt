@@ -7,7 +7,8 @@ use Rattle.whole.specs.Numbers.{clamp}
 use Rattle.whole.specs.Search.{seek}
 use Rattle.tables.specs.Dense.{denseOf}
 use Rattle.passes.specs.Passes.{scaling, passesOf}
-use Rattle.pixels.specs.Calls.{addVerdict, addOf}
+use Rattle.verdicts.specs.Verdicts.{addVerdict}
+use Rattle.pixels.specs.Calls.{addOf}
 use Rattle.chroma.specs.Chroma.{round256, verdict, cctxOf}
 use Rattle.wht.specs.Wht.{fore, fore44, fwht}
 use Rattle.wht.specs.Calls.{fwhtOf}

@@ -13,7 +13,7 @@ use lib.IntN.{ℤ}
 use lib.ListN.{length}
 use Rattle.whole.specs.Numbers.{inRange}
 use Rattle.tables.specs.Sizes.{cut}
-use Rattle.pixels.specs.Calls.{wOf, hOf}
+use Rattle.verdicts.specs.Verdicts.{wOf, hOf}
 use Rattle.chroma.specs.Chroma.{low, high, item}
 use Rattle.lossless.specs.Step.{Step}
 

@@ -14,7 +14,8 @@ use Rattle.whole.specs.Sums.{tab}
 use Rattle.answers.specs.declared.Answer.{Answer}
 use Rattle.tables.specs.Sizes.{cut}
 use Rattle.chroma.specs.Chroma.{cctxOf}
-use Rattle.pixels.specs.Calls.{strict, wOf, hOf, addOf}
+use Rattle.verdicts.specs.Verdicts.{wOf, hOf}
+use Rattle.pixels.specs.Calls.{strict, addOf}
 use Rattle.wht.specs.Calls.{fwhtOf}
 
 -- n times 100

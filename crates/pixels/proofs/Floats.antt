@@ -26,8 +26,9 @@ use Rattle.whole.proofs.Cells.{row-of, column-of}
 use Rattle.answers.specs.declared.Answer.{Answer}
 use Rattle.answers.proofs.Verdicts.{taken}
 use Rattle.pixels.specs.Pixels.{residualAt, pixelOf, isPixel, pixelF}
-use Rattle.pixels.specs.Calls.{Reading, wOf, hOf, floatVerdict, filled, floatOf, Exact}
-use Rattle.pixels.proofs.Judging.{float-passed}
+use Rattle.verdicts.specs.Verdicts.{wOf, hOf, floatVerdict}
+use Rattle.pixels.specs.Calls.{Reading, filled, floatOf, Exact}
+use Rattle.verdicts.proofs.Judging.{float-passed}
 
 between : (z : ℤ) (n : ℕ) → n ≤ 4095 → T (leZ (pos 0) z) → T (leZ z (pos n)) → isPixel z
 between (pos m) n h p q = N.le-trans (lib.Dec.leb→le m n q) h

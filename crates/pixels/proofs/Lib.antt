@@ -1,4 +1,3 @@
-pub mod Judging
 pub mod Floats
 pub mod Served
 pub mod Outcomes

@@ -11,7 +11,8 @@ use lib.IntN.{ℤ}
 use lib.ListN.{length}
 use Rattle.answers.specs.declared.Answer.{Answer}
 use Rattle.answers.proofs.Verdicts.{left, one-outcome}
-use Rattle.pixels.specs.Calls.{Reading, addVerdict, added, addOf, floatVerdict, filled, floatOf}
+use Rattle.verdicts.specs.Verdicts.{addVerdict, floatVerdict}
+use Rattle.pixels.specs.Calls.{Reading, added, addOf, filled, floatOf}
 
 -- ---- the add call
 module _ (how : Reading) (dst : List ℤ) (stride : ℕ) (cs : List ℤ) (txtp tx depth : ℕ) where

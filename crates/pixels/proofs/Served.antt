@@ -26,7 +26,7 @@ use Rattle.tables.specs.Sizes.{sizeAt, cut}
 use Rattle.passes.specs.Passes.{settledTo, passesOf, swOf, shOf}
 use Rattle.pixels.specs.Pixels.{repeats, repeated, residualOf, residualAt}
 use Rattle.pixels.specs.Rows.{Residuals}
-use Rattle.pixels.specs.Calls.{wOf, hOf, Sides}
+use Rattle.verdicts.specs.Verdicts.{wOf, hOf, Sides}
 
 -- K is what becomes of a pixel; f and g what the samples and the residuals are
 module _ {A : Type 0} (d : A) (K : ℤ → A) (hi : ℤ) (P E : List ℤ) (across w sw : ℕ) (f g : ℕ → ℤ)

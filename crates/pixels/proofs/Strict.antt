@@ -22,8 +22,9 @@ use Rattle.answers.specs.Answers.{done, refused, unless, ends}
 use Rattle.answers.proofs.Verdicts.{passed, opens, search-stops}
 use Rattle.ranges.specs.Cells.{cellOk}
 use Rattle.tables.specs.Sizes.{cut, scaled}
-use Rattle.pixels.specs.Calls.{strict, clamped, wOf, hOf, coeffOk, FirstOutside, coefficients, samples, numbers, addFront, addVerdict, added, addOf, floatFront, floatVerdict, filled, floatOf}
-use Rattle.pixels.proofs.Judging.{kinds-passed, plane-passed, buffers-passed, add-front, float-front, scalable-all}
+use Rattle.verdicts.specs.Verdicts.{wOf, hOf, coeffOk, FirstOutside, coefficients, samples, numbers, addFront, addVerdict, floatFront, floatVerdict}
+use Rattle.pixels.specs.Calls.{strict, clamped, added, addOf, filled, floatOf}
+use Rattle.verdicts.proofs.Judging.{kinds-passed, plane-passed, buffers-passed, add-front, float-front, scalable-all}
 
 -- ---- searches: what stands before the end passes; the end is the first that fails
 module _ (p : ℕ → Bool) where

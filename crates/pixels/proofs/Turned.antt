@@ -26,8 +26,9 @@ use Rattle.tables.specs.Kinds.{horOf, verOf, hasKind}
 use Rattle.tables.specs.Dense.{denseOf}
 use Rattle.passes.specs.Passes.{entry, settledTo, loaded, middleOf, passesOf, swOf, shOf}
 use Rattle.pixels.specs.Pixels.{repeats, residualAt, pixelOf, pixelF}
-use Rattle.pixels.specs.Calls.{strict, strictRows, Turned, wOf, hOf, kinds, samples, addVerdict, added, addOf, floatVerdict, filled, floatOf}
-use Rattle.pixels.proofs.Judging.{add-passed, float-passed, sides}
+use Rattle.verdicts.specs.Verdicts.{wOf, hOf, kinds, samples, addVerdict, floatVerdict}
+use Rattle.pixels.specs.Calls.{strict, strictRows, Turned, added, addOf, filled, floatOf}
+use Rattle.verdicts.proofs.Judging.{add-passed, float-passed, sides}
 use Rattle.pixels.proofs.Served.{repeat-below, block-same}
 
 -- ---- two answers with the same number, which are the same where it is 0

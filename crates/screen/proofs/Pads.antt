@@ -18,7 +18,8 @@ use Rattle.whole.specs.Grid.{inBlock}
 use Rattle.whole.proofs.Cells.{under, cell-column}
 use Rattle.whole.proofs.Fill.{length-tab, tab-at}
 use Rattle.whole.proofs.Tests.{both}
-use Rattle.pixels.specs.Calls.{wOf, hOf, strict, addVerdict, added, addOf}
+use Rattle.verdicts.specs.Verdicts.{wOf, hOf, addVerdict}
+use Rattle.pixels.specs.Calls.{strict, added, addOf}
 use Rattle.pixels.specs.Pixels.{residualAt, pixelOf}
 use Rattle.lossless.specs.Gains.{numbers}
 use Rattle.screen.specs.Planes.{standsOf, blockStands, blockOf, fromOn}

@@ -18,7 +18,8 @@ use Rattle.answers.specs.declared.Answer.{Answer}
 use Rattle.answers.specs.Answers.{done}
 use Rattle.answers.proofs.Verdicts.{left}
 use Rattle.wht.specs.Wht.{iwht}
-use Rattle.pixels.specs.Calls.{strict, addOf, addVerdict, added}
+use Rattle.verdicts.specs.Verdicts.{addVerdict}
+use Rattle.pixels.specs.Calls.{strict, addOf, added}
 use Rattle.lossless.specs.Gains.{numbers}
 use Rattle.lossless.specs.History.{Undoes, none, next}
 use Rattle.lossless.specs.Step.{Step, spot, sample, front, stepOf, undoOf}

@@ -19,7 +19,8 @@ use lib.ListN.{length, getD, take, drop}
 use Rattle.answers.specs.declared.Answer.{Answer}
 use Rattle.whole.specs.Sums.{tab}
 use Rattle.lossless.specs.Gains.{numbers}
-use Rattle.pixels.specs.Calls.{strict, wOf, hOf, addOf}
+use Rattle.verdicts.specs.Verdicts.{wOf, hOf}
+use Rattle.pixels.specs.Calls.{strict, addOf}
 
 abbrev pub natural : ℤ → ℕ
 natural (pos n) = n

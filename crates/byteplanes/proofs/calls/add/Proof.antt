@@ -15,8 +15,9 @@ use Rattle.tables.specs.declared.size.Size.{Size}
 use Rattle.passes.specs.Passes.{swOf, shOf}
 use Rattle.passes.proofs.Steps.{area}
 use Rattle.pixels.specs.Pixels.{residualOf, residualAt}
-use Rattle.pixels.specs.Calls.{wOf, hOf, added}
-use Rattle.pixels.proofs.Judging.{ready, sides, last-row}
+use Rattle.verdicts.specs.Verdicts.{wOf, hOf}
+use Rattle.pixels.specs.Calls.{added}
+use Rattle.verdicts.proofs.Judging.{ready, sides, last-row}
 use Rattle.pixels.proofs.Served.{residual-bounded, block-same}
 use Rattle.byteplanes.specs.Bytes.{byteOf, bytesOf}
 use Rattle.byteplanes.proofs.Accepting.{Accepted, bytes-passed}

@@ -8,8 +8,8 @@ use Rattle.answers.specs.Answers.{done}
 use Rattle.answers.proofs.Endings.{same-number}
 use Rattle.tables.specs.declared.size.Size.{Size}
 use Rattle.tables.specs.Sizes.{cut}
-use Rattle.pixels.specs.Calls.{wOf, hOf, Sides, onPlane, coefficients}
-use Rattle.pixels.proofs.Judging.{Kinds, kinds-passed, kinds-stays, sides, Reach, plane-passed, plane-opens, plane-stays}
+use Rattle.verdicts.specs.Verdicts.{wOf, hOf, Sides, onPlane, coefficients}
+use Rattle.verdicts.proofs.Judging.{Kinds, kinds-passed, kinds-stays, sides, Reach, plane-passed, plane-opens, plane-stays}
 use Rattle.byteplanes.specs.Bytes.{bytesVerdict}
 use Rattle.byteplanes.proofs.Accepting.{Narrow, narrow-passed, narrow-opens, narrow-stays, bytes-opens}
 use Rattle.byteplanes.proofs.judge.judge.Statement.{statement}

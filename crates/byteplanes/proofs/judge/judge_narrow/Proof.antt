@@ -4,7 +4,7 @@ use Prim.Native.Nat.{_≤_, _<_}
 use borrow.Author.Needs.{needs}
 use borrow.Author.Tests.{lt-leb, le-leb, eq-eqb, ne-eqb}
 use Rattle.tables.specs.declared.size.Size.{Size}
-use Rattle.pixels.specs.Calls.{wOf, hOf}
+use Rattle.verdicts.specs.Verdicts.{wOf, hOf}
 use Rattle.byteplanes.proofs.judge.judge_narrow.Statement.{statement}
 use Rattle.byteplanes.proofs.judge.judge_narrow.Tie as tie
 

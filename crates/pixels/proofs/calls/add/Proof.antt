@@ -14,8 +14,9 @@ use Rattle.tables.specs.declared.size.Size.{Size}
 use Rattle.tables.specs.Sizes.{cut}
 use Rattle.passes.proofs.Steps.{area}
 use Rattle.pixels.specs.Pixels.{repeated, residualAt, pixelOf}
-use Rattle.pixels.specs.Calls.{wOf, hOf, Sides, addVerdict, addedBy, added, addOf}
-use Rattle.pixels.proofs.Judging.{Kinds, Plane, add-passed, ready, sides, last-row}
+use Rattle.verdicts.specs.Verdicts.{wOf, hOf, Sides, addVerdict}
+use Rattle.pixels.specs.Calls.{addedBy, added, addOf}
+use Rattle.verdicts.proofs.Judging.{Kinds, Plane, add-passed, ready, sides, last-row}
 use Rattle.pixels.proofs.Served.{residual-bounded, residual-served, block-same}
 use Rattle.pixels.proofs.calls.add.Statement.{statement}
 use Rattle.pixels.proofs.calls.add.Tie as tie

@@ -16,8 +16,9 @@ use Rattle.tables.specs.declared.size.Size.{Size}
 use Rattle.tables.specs.Sizes.{cut}
 use Rattle.passes.proofs.Steps.{area}
 use Rattle.pixels.specs.Pixels.{repeated, residualAt, pixelOf, pixelF}
-use Rattle.pixels.specs.Calls.{wOf, hOf, Sides, floatVerdict, filledBy, filled, floatOf, readingOf}
-use Rattle.pixels.proofs.Judging.{Kinds, Buffers, float-passed, ready, sides}
+use Rattle.verdicts.specs.Verdicts.{wOf, hOf, Sides, floatVerdict}
+use Rattle.pixels.specs.Calls.{filledBy, filled, floatOf, readingOf}
+use Rattle.verdicts.proofs.Judging.{Kinds, Buffers, float-passed, ready, sides}
 use Rattle.pixels.proofs.Floats.{exact-call}
 use Rattle.pixels.proofs.Served.{residual-bounded, residual-served, block-same}
 use Rattle.pixels.proofs.calls.recon.Statement.{statement}

@@ -11,8 +11,9 @@ use lib.Dec.{leb}
 use lib.IntN.{ℤ}
 use lib.ListN.{length}
 use Rattle.answers.specs.declared.Answer.{Answer}
-use Rattle.pixels.specs.Calls.{strict, wOf, hOf, addOf}
-use Rattle.pixels.proofs.Judging.{sides}
+use Rattle.verdicts.specs.Verdicts.{wOf, hOf}
+use Rattle.pixels.specs.Calls.{strict, addOf}
+use Rattle.verdicts.proofs.Judging.{sides}
 use Rattle.whole.proofs.Tests.{both}
 use Rattle.screen.specs.Planes.{standsOf, blockStands, blockOf, fromOn}
 use Rattle.screen.proofs.Tails.{none, tail-lent, tail-back}

@@ -1,0 +1,2 @@
+-- The verdicts of the pixel calls, taken apart.
+pub mod Judging

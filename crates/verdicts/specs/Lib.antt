@@ -1,0 +1,2 @@
+-- What the pixel calls answer.
+pub mod Verdicts
