@@ -87,6 +87,10 @@ def combinations():
     ]
 
 
+# The sizes without a side of 64, which are those of the calls on bytes.
+NARROW_SIZES = [size for size, (w, h, _, _) in enumerate(tables.SIZES) if 64 not in (w, h)]
+
+
 def coefficient_range(call, depth, size):
     """What a call accepts for a coefficient."""
     return model.coefficient_range(depth, size, call in stream.CLAMPED) or WHOLE
@@ -159,8 +163,16 @@ def plane_of(rng, depth, stride, width, height, start, room):
     return plane
 
 
+def in_bytes(call, case):
+    """A case of a wide call as one of its byte call: any number outside the block as a byte."""
+    numbers, plane = case.slices
+    return Case(call, case.arguments, [numbers, [value & 255 for value in plane]])
+
+
 def block(rng, call, depth, size, horizontal, vertical, room=stream.LIMIT):
     """An accepted case of a pixel call."""
+    if call in stream.WIDE:
+        return in_bytes(call, block(rng, stream.WIDE[call], depth, size, horizontal, vertical, room))
     w, h = model.width_and_height(size)
     type = horizontal | rng.choice((0, 0, rng.randrange(4))) << 3 | vertical << 5
     coefficients = rng.choice(PATTERNS)(rng, coefficient_range(call, depth, size), size, horizontal, vertical)
@@ -188,15 +200,16 @@ class Blocks:
             self.waiting = self.rng.sample(self.all, len(self.all))
         return self.waiting.pop()
 
-    def by_size(self):
-        size = self.rng.randrange(25)
+    def by_size(self, size):
         w, h = model.width_and_height(size)
-        kinds = self.rng.randrange(tables.CODES[w]), self.rng.randrange(tables.CODES[h])
-        return self.rng.randint(8, 12), size, *kinds
+        return size, self.rng.randrange(tables.CODES[w]), self.rng.randrange(tables.CODES[h])
 
     def case(self, call):
-        chosen = self.by_size() if self.rng.randrange(3) == 0 else self.next_combination()
-        return block(self.rng, call, *chosen)
+        if call in stream.WIDE:
+            return block(self.rng, call, 8, *self.by_size(self.rng.choice(NARROW_SIZES)))
+        if self.rng.randrange(3) == 0:
+            return block(self.rng, call, self.rng.randint(8, 12), *self.by_size(self.rng.randrange(25)))
+        return block(self.rng, call, *self.next_combination())
 
 
 # The other calls.
@@ -225,9 +238,11 @@ def place_of_block(rng, room):
     return stride, width, row, rng.choice((0, width - 4, rng.randint(0, width - 4)))
 
 
-def lossless(rng, call, room=1200):
+def lossless(rng, call, room=1200, depth=None):
     """An accepted step or undo: the levels lead from one block of samples to another."""
-    depth = rng.randint(8, 12)
+    if call in stream.WIDE:
+        return in_bytes(call, lossless(rng, stream.WIDE[call], room, 8))
+    depth = depth or rng.randint(8, 12)
     stride, width, row, column = place_of_block(rng, room)
     plane = plane_of(rng, depth, stride, 4, 4, row * stride + column, room)
     present = [plane[at] for at in model.places(stride, row, column)]
@@ -236,9 +251,9 @@ def lossless(rng, call, room=1200):
     return Case(call, [depth, stride, width, row, column], [model.forward(residual), plane])
 
 
-def history(rng, steps):
+def history(rng, steps, step=8, undo=9):
     """Steps on one plane, some of them refused, then the undoing of the taken ones, newest first."""
-    depth, stride, rows = rng.randint(8, 12), rng.randint(6, 12), rng.randint(6, 12)
+    depth, stride, rows = 8 if step in stream.WIDE else rng.randint(8, 12), rng.randint(6, 12), rng.randint(6, 12)
     width = rng.randint(5, stride)
     plane = samples(rng, stride * rows, depth)
     cases, taken = [], []
@@ -248,13 +263,13 @@ def history(rng, steps):
         levels = model.forward([b - a for a, b in zip(present, samples(rng, 16, depth))])
         if rng.randrange(4) == 0:
             levels[rng.randrange(16)] += rng.choice((1, 2**depth, -(2**14)))
-        cases.append(Case(8, [depth, stride, width, row, column], [levels, plane]))
+        cases.append(Case(step, [depth, stride, width, row, column], [levels, plane]))
         answer, after = model.outcome(cases[-1])
         plane = after.slices[1]
         if answer == model.DONE:
             taken.append(cases[-1])
     for case in reversed(taken):
-        cases.append(Case(9, case.arguments, [case.slices[0], plane]))
+        cases.append(Case(undo, case.arguments, [case.slices[0], plane]))
         plane = model.outcome(cases[-1])[1].slices[1]
     return cases
 
@@ -339,7 +354,8 @@ def older(rng, make):
 
 def accepted(rng, blocks, call):
     """An accepted case of any call."""
-    makers = {"chroma": lambda: chroma(rng), "wht": lambda: wht(rng, call), "lossless": lambda: lossless(rng, call)}
+    makers = {"chroma": lambda: chroma(rng), "wht": lambda: wht(rng, call)}
+    makers |= {"lossless": lambda: lossless(rng, call), "byte lossless": lambda: lossless(rng, call)}
     makers |= {name: lambda: remembered(rng, call) for name in map(lambda c: stream.CALLS[c].kind, stream.HISTORY_CALLS)}
     makers |= {"av1 dct": lambda: older(rng, av1_cases.a_dct), "av1 wht": lambda: older(rng, av1_cases.a_wht)}
     return makers.get(stream.CALLS[call].kind, lambda: blocks.case(call))()
@@ -385,10 +401,10 @@ def stray(rng, case):
     depth = case.arguments[0] if case.arguments and case.arguments[0] <= 12 else 8
     ends = (-1, 2**depth, -(2 ** (depth + 7)) - 1, 2 ** (depth + 7), RANGE[0] - 1, RANGE[1] + 1)
     ends += (-65_536, 65_536, -262_145, 262_145, 524_288, *WHOLE)
-    unsigned = stream.CALLS[case.call].slices[slice] in stream.UNSIGNED
+    name = stream.CALLS[case.call].slices[slice]
     for _ in range(rng.randint(1, 3) if values else 0):
         value = rng.choice(ends)
-        values[rng.randrange(len(values))] = value % 2**32 if unsigned else value
+        values[rng.randrange(len(values))] = value & 255 if name in stream.BYTES else value % 2**32 if name in stream.UNSIGNED else value
 
 
 def forge(rng, case):
@@ -404,7 +420,7 @@ def forge(rng, case):
 
 def nudge(rng, case):
     """A level changed a little, so that a step may leave the range."""
-    if case.call in (8, 9) and len(case.slices[0]) == 16:
+    if case.call in (8, 9, 22, 23) and len(case.slices[0]) == 16:
         k = rng.randrange(16)
         changed = case.slices[0][k] + rng.choice((-5000, -300, -3, -1, 1, 3, 300, 5000))
         case.slices[0][k] = min(max(changed, WHOLE[0]), WHOLE[1])
@@ -412,8 +428,8 @@ def nudge(rng, case):
 
 HUGE = (2**31, 2**32, 2**32 + 8, 2**62, 2**63 - 1, 2**63, 2**64 - 4, 2**64 - 1)
 FAULTS = (
-    set_argument("depth", 0, 7, 13, 31, 32, 2**31, 2**32 - 1),
-    set_argument("size", 25, 26, 255, *HUGE),
+    set_argument("depth", 0, 7, 9, 12, 13, 31, 32, 2**31, 2**32 - 1),
+    set_argument("size", 4, 24, 25, 26, 255, *HUGE),
     set_argument("type", 256, 257, 512, *HUGE),
     missing_kind,
     missing_kind,

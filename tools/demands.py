@@ -11,17 +11,24 @@ import model
 import stream
 import tables
 from cases import RANGE, WHOLE
-from stream import CLAMPED, HISTORY_CALLS, PIXEL_CALLS, ROWS, Case, of_kind
+from stream import BYTE_CALLS, CLAMPED, HISTORY_CALLS, PIXEL_CALLS, ROWS, Case, of_kind
 
 # A case and its answer; after is what the written slices hold then, None where only the answer is laid down.
 Demand = collections.namedtuple("Demand", "label case number slice place after", defaults=[0, 0, 0, None])
 
 STRICT = tuple(call for call in PIXEL_CALLS if call not in CLAMPED)
+BYTE_ADD = of_kind("byte add")
+STEPS = of_kind("lossless", "byte lossless")
 RECTANGULAR = (5, 6, 7, 8, 9, 10, 11, 12, 19, 20, 21, 22)
 SMALL_SIZE_OF_LENGTH = {4: (0, 0), 8: (6, 5), 16: (14, 13), 32: (20, 19), 64: (24, 23)}
 
 
 # Cases.
+
+
+def calls_of(size):
+    """The pixel calls that have a size: no call on bytes has a side of 64."""
+    return PIXEL_CALLS if 64 in model.width_and_height(size) else PIXEL_CALLS + BYTE_ADD
 
 
 def floats(call):
@@ -118,7 +125,7 @@ def index_of(call, size, row, column):
 
 def on_pixel_calls(label, size, type, place, value, pixels):
     """One coefficient that is not zero, by its row and column, prediction 100: the same pixels by every call."""
-    for call in PIXEL_CALLS:
+    for call in calls_of(size):
         index = index_of(call, size, *place)
         case = pixel(call, 8, size, type, with_number(lengths_of(size)[0], index, value))
         after = list(map(model.float_bits, pixels)) if floats(call) else list(pixels)
@@ -151,7 +158,7 @@ def other_sums():
     for label, residual, levels in TRANSFORMS:
         yield Demand(label, wht(6, residual), after=[levels])
         yield Demand(f"{label} inverted", wht(7, levels), after=[residual])
-    for call in (8, 9):
+    for call in STEPS:
         for width, fits in ((8, 4), (6, 2)):
             make = lambda column: lossless(call, stride=8, width=width, column=column)
             label = f"call {call}, width {width}"
@@ -416,8 +423,8 @@ def depths():
 
 
 def sizes_and_types():
-    for call in PIXEL_CALLS:
-        yield Demand("size 24", pixel(call, size=24))
+    for call in PIXEL_CALLS + BYTE_ADD:
+        yield Demand("size 24", pixel(call, size=24), *((11,) if call in BYTE_ADD else ()))
         for size in (25, 26, 256, 2**32, 2**32 + 1, 2**63, 2**64 - 1):
             yield Demand(f"size {size}", pixel(call, size=size), 2)
         for type in (0, 8, 16, 24, 34, 58, 67, 99):
@@ -429,20 +436,21 @@ def sizes_and_types():
 
 def kinds():
     """Every code at every length; a missing one is told before an empty slice is."""
-    for call, (length, (wide, tall)), code in itertools.product(PIXEL_CALLS, SMALL_SIZE_OF_LENGTH.items(), range(8)):
+    chosen = ((call, length, sides) for length, sides in SMALL_SIZE_OF_LENGTH.items() for call in calls_of(sides[0]))
+    for (call, length, (wide, tall)), code in itertools.product(chosen, range(8)):
         for size, type, place in ((wide, code, 0), (tall, code << 5, 1)):
             label = f"code {code} at length {length}, place {place}"
             if code < tables.CODES[length]:
                 yield Demand(label, pixel(call, size=size, type=type))
             else:
                 yield Demand(label, pixel(call, 8, size, type, [], []), 4, place=place)
-    for call in PIXEL_CALLS:
+    for call in calls_of(0):
         yield Demand("two missing kinds", pixel(call, type=4 | 5 << 5), 4, place=0)
         yield Demand("a class beside a missing kind", pixel(call, type=24 | 6 << 5), 4, place=1)
 
 
 def pixel_lengths():
-    for call, size in itertools.product(PIXEL_CALLS, (0, 5, 6, 13, 20, 24)):
+    for call, size in ((call, size) for size in (0, 5, 6, 13, 20, 24) for call in calls_of(size)):
         whole = pixel(call, size=size)
         yield Demand(f"exact lengths, size {size}", whole)
         for i, name in enumerate(stream.CALLS[call].slices):
@@ -456,7 +464,7 @@ def pixel_lengths():
 
 def several_short():
     """Of several short slices the lowest is named, whichever lacks more."""
-    for call, size in itertools.product(PIXEL_CALLS, (0, 5, 24)):
+    for call, size in ((call, size) for size in (0, 5, 24) for call in calls_of(size)):
         whole = pixel(call, size=size)
         names = stream.CALLS[call].slices
         for lacks in itertools.product((0, 1, None), repeat=len(names)):
@@ -477,7 +485,7 @@ def strict_ranges():
             call = STRICT[turn % len(STRICT)]
             case = pixel(call, depth, size, 0, with_number(count, count - 1, value))
             yield Demand(f"coefficient {value}, depth {depth}, size {size}", case, *refusal)
-    for call in STRICT:
+    for call in STRICT + BYTE_ADD:
         for value, place in itertools.product((32_767, 32_768, -32_769, RANGE[1] + 1, *WHOLE), (0, 7, 31, 32)):
             refusal = (7, 1, place) if value != 32_767 and place < 32 else (0, 0, 0)
             case = pixel(call, size=5, coefficients=with_number(33, place, value))
@@ -486,7 +494,7 @@ def strict_ranges():
 
 def orders():
     """Document 02, section 1: what number 1 and number sw are in each order, and where refusal 7 finds them. Size 5 is 4x8."""
-    for call in STRICT:
+    for call in STRICT + BYTE_ADD:
         across, down = (1, 4) if call in ROWS else (8, 1)
         numbers = with_number(32, across, 32_768)
         numbers[down] = -32_769
@@ -534,7 +542,7 @@ def plane_pads():
 
 
 def add_strides():
-    for call in of_kind("add"):
+    for call in of_kind("add", "byte add"):
         for stride in (4, 5, 300):
             yield Demand(f"stride {stride}", add(call, stride=stride))
         for stride in (0, 3, 65_537, 2**31, 2**32 + 4, 2**63, 2**64 - 4, 2**64 - 1):
@@ -546,6 +554,7 @@ def add_strides():
             yield Demand(label, add(call, stride=stride, plane=[100] * length), *refusal)
         yield Demand("stride 31 at width 32", add(call, size=20, stride=31), 5)
         yield Demand("stride 32 at width 32", add(call, size=20, stride=32))
+    for call in of_kind("add"):
         yield Demand("stride 63 at width 64", add(call, size=24, stride=63), 5)
     yield Demand("the longest plane", add(3, stride=6665, plane=[100] * stream.LIMIT))
 
@@ -595,7 +604,7 @@ def wht_edges():
 
 
 def lossless_places():
-    for call in (8, 9):
+    for call in STEPS:
         for stride, *refusal in ((0, 5), (3, 5), (4,), (65_536, 6, 2), (65_537, 5), (2**32 + 8, 5), (2**64 - 1, 5)):
             yield Demand(f"stride {stride}", lossless(call, stride=stride), *refusal)
         for row in (5, 65_535, 65_536, 2**31, 2**32, 2**61, 2**62, 2**63, 2**64 - 3, 2**64 - 1):
@@ -616,7 +625,7 @@ def lossless_places():
 
 def lossless_widths():
     """The visible width of document 02, section 2, at stride 8."""
-    for call in (8, 9):
+    for call in STEPS:
         for width, *refusal in ((0, 5), (3, 5), (4,), (5,), (8,), (9, 5), (65_536, 5), (2**32 + 6, 5), (2**64 - 1, 5)):
             yield Demand(f"width {width}", lossless(call, width=width), *refusal)
         for stride, width in ((3, 3), (3, 4), (65_537, 65_537), (2**64 - 1, 8)):
@@ -631,7 +640,9 @@ def lossless_widths():
 def lossless_pads():
     """What stands in the pad, sample or not, is neither read nor written: width 6 at stride 8, columns 6 and 7."""
     visible = lambda sample, pad: ([sample] * 6 + [pad] * 2) * 8
-    for (call, gain), pad in itertools.product(((8, 1), (9, -1)), (-1, 0, 255, 256, *WHOLE)):
+    for (call, gain), pad in itertools.product(((8, 1), (9, -1), (22, 1), (23, -1)), (-1, 0, 255, 256, *WHOLE)):
+        if call in BYTE_CALLS and not 0 <= pad <= 255:
+            continue
         make = lambda column, **words: lossless(call, width=6, row=3, column=column, levels=[4] + [0] * 15, **words)
         after = visible(100, pad)
         for row in range(3, 7):
@@ -646,15 +657,15 @@ def lossless_pads():
 
 def lossless_numbers():
     """A block at row 2, column 3 of stride 8: its samples have the indices 19 to 22, 27 to 30, 35 to 38, 43 to 46."""
-    for call in (8, 9):
+    for call in STEPS:
         make = lambda **words: lossless(call, row=2, column=3, **words)
         for value, place in itertools.product((-262_145, 262_145, *WHOLE), (0, 5, 15)):
             yield Demand(f"level {value} at {place}", make(levels=with_number(16, place, value)), 7, 1, place)
-        for value, place in itertools.product((-1, 256, *WHOLE), (18, 19, 23, 29, 46, 47)):
+        for value, place in itertools.product((-1, 256, *WHOLE) if call in (8, 9) else (), (18, 19, 23, 29, 46, 47)):
             refusal = (8, 2, place) if place in (19, 29, 46) else (0, 0, 0)
             yield Demand(f"sample {value} at {place}", make(plane=with_number(64, place, value, 100)), *refusal)
         yield Demand("level 262,144", make(levels=with_number(16, 0, 262_144)), 10, 2, 19)
-        towards = 1 if call == 8 else -1
+        towards = 1 if call in (8, 22) else -1
         for index, place in ((0, 19), (5, 28), (15, 46)):
             for gain, at_end in ((1, 255), (-1, 0)):
                 levels = model.forward(with_number(16, index, towards * gain))
@@ -663,6 +674,34 @@ def lossless_numbers():
                 before = with_number(64, place, at_end - gain, 100)
                 yield Demand(f"{label}, at the end", make(levels=levels, plane=last), 10, 2, place)
                 yield Demand(f"{label}, before it", make(levels=levels, plane=before), after=[last])
+
+
+def byte_planes():
+    """Document 02, section 4: depth 8 alone, no side of 64, and every byte a sample."""
+    makers = [lambda depth, call=call: pixel(call, depth) for call in BYTE_ADD]
+    makers += [lambda depth, call=call: lossless(call, depth) for call in (22, 23)]
+    for make in makers:
+        yield Demand("depth 8", make(8))
+        for depth in (0, 7, 9, 10, 11, 12, 13, 32, 2**31, 2**32 - 1):
+            yield Demand(f"depth {depth}", make(depth), 1)
+    for call, size in itertools.product(BYTE_ADD, range(25)):
+        refusal = (11,) if 64 in model.width_and_height(size) else ()
+        yield Demand(f"size {size}", pixel(call, size=size), *refusal)
+        yield Demand(f"size {size} at depth 9", pixel(call, 9, size), 1)
+        yield Demand(f"size {size}, type 256", pixel(call, size=size, type=256), *(refusal or (3,)))
+        yield Demand(f"size {size}, no bytes", pixel(call, size=size, present=[]), *(refusal or (6, 2)))
+    for call, byte in itertools.product(BYTE_ADD, (0, 1, 254, 255)):
+        low, high = with_number(16, 0, -32_768), with_number(16, 0, 32_767)
+        yield Demand(f"bytes of {byte}, as dark as can be", pixel(call, coefficients=low, present=[byte] * 16), after=[[0] * 16])
+        yield Demand(f"bytes of {byte}, as light as can be", pixel(call, coefficients=high, present=[byte] * 16), after=[[255] * 16])
+        for around in (0, 255):
+            plane = [byte if at % 7 < 4 else around for at in range(25)]
+            yield Demand(f"bytes of {byte} beside {around}", add(call, stride=7, plane=plane), after=[plane])
+    for call, byte in itertools.product((22, 23), (0, 1, 254, 255)):
+        gain = 1 if call == 22 else -1
+        fits = 0 <= byte + gain <= 255
+        wanted = {"after": [[byte + gain] * 16]} if fits else {"number": 10, "slice": 2}
+        yield Demand(f"bytes of {byte}, one more or less", lossless(call, stride=4, levels=UP, plane=[byte] * 16), **wanted)
 
 
 def older_edges():
@@ -701,7 +740,9 @@ def older_intermediates():
     yield Demand("an input before a sum", older_dct(4, [top, 0, top, top + 1]), 15, 0, 3)
 
 
-# Two refusals at once: the lowest number counts, then the lowest place, then the lowest slice.
+# Two refusals at once: the one that stands first counts, within a number the lowest place, then the lowest slice.
+
+ORDER = (1, 2, 11, 3, 4, 5, 6, 12, 7, 8, 9, 10, 13, 14)
 
 Fault = collections.namedtuple("Fault", "number slice place spoil")
 
@@ -822,7 +863,7 @@ def spoilt(make, faults):
         case = make()
         for fault in chosen:
             fault.spoil(case)
-        lowest = min(chosen, key=lambda fault: (fault.number, fault.place, fault.slice))
+        lowest = min(chosen, key=lambda fault: (ORDER.index(fault.number), fault.place, fault.slice))
         label = "faults " + " ".join(f"{fault.number}/{fault.slice}@{fault.place}" for fault in chosen)
         yield Demand(label, case, lowest.number, lowest.slice, lowest.place)
 
@@ -832,18 +873,23 @@ def together():
         yield from spoilt(lambda: recon(call, size=5), [*block_faults(call), *RECON_FAULTS])
     for call in of_kind("add"):
         yield from spoilt(lambda: add(call, size=5, stride=6), [*block_faults(call), *ADD_FAULTS])
+    for call in BYTE_ADD:
+        faults = [fault for fault in [*block_faults(call), *ADD_FAULTS] if fault.number != 8]
+        yield from spoilt(lambda: add(call, size=5, stride=6), faults)
+        narrow = [Fault(11, 0, 0, argument(1, 24)), *(fault for fault in faults if fault.number != 2)]
+        yield from spoilt(lambda: add(call, size=5, stride=6), narrow)
     yield from spoilt(lambda: chroma([0] * 4, [0] * 4), CHROMA_FAULTS)
     for call in (6, 7):
         yield from spoilt(lambda: wht(call, [0] * 16), WHT_FAULTS)
-    for call, towards in ((8, 1), (9, -1)):
+    for call, towards in ((8, 1), (9, -1), (22, 1), (23, -1)):
         make = lambda: lossless(call, width=7, row=2, column=3, plane=[255] * 47)
-        yield from spoilt(make, lossless_faults(towards))
+        yield from spoilt(make, [fault for fault in lossless_faults(towards) if fault.number != 8 or call in (8, 9)])
 
 
 def edges():
     sections = (depths, sizes_and_types, kinds, pixel_lengths, several_short, strict_ranges, orders, clamping_ranges)
     sections += (sample_ranges, plane_pads, add_strides, chroma_edges, wht_edges, lossless_places, lossless_widths)
-    sections += (lossless_pads, lossless_numbers, older_edges, older_intermediates, together)
+    sections += (lossless_pads, lossless_numbers, byte_planes, older_edges, older_intermediates, together)
     return [demand for section in sections for demand in section()] + history()
 
 
@@ -854,12 +900,15 @@ def broken_streams():
     case = wht(6, [1] * 16)
     whole = stream.encode(case)
     word = stream.word
-    unknown = [word(call) for call in (0, 18, 255, 2**32 + 6, 2**63, 2**64 - 1)]
+    unknown = [word(call) for call in (0, 24, 27, 255, 2**32 + 6, 2**63, 2**64 - 1)]
     ends = [whole[:count] for count in (1, 7, 8, 15, 16, 17, 79, 80, 87, 88, len(whole) - 1)]
     longer = [word(6) + word(length) for length in (20_001, 2**31, 2**32, 2**62, 2**63, 2**64 - 1)]
     longer.append(word(6) + word(20_001) + bytes(4 * 20_001) + word(16) + bytes(64))
     wide = [word(5) + word(2**32 + 8) + word(0) + word(256) + word(0) + word(0)]
     wide += [word(5) + word(8) + word(angle) + word(256) + word(0) + word(0) for angle in (2**31, -(2**31) - 1, 2**63)]
+    for value in (256, -1, 2**31 - 1, -(2**31)):
+        wide.append(stream.encode(lossless(22, plane=with_number(64, 40, value, 100))))
+        wide.append(stream.encode(add(18, plane=with_number(17, 16, value, 100))))
     glass = word(8) * 3
     for length, count in ((4, 5), (70_001, 0), (2**64 - 1, 0), (4, 2**64 - 1)):
         longer.append(word(29) + glass + word(0) + word(length) + word(count) + bytes(4 * min(count, 8)))

@@ -217,6 +217,33 @@ def inv_txfm_add(depth, size, type, stride, coefficients, plane, clamping=False,
     return verdict
 
 
+# Planes of bytes: document 02, section 4. Any byte is a sample of depth 8, so no test of samples is left.
+
+
+def byte_refusals(depth, size=0):
+    if depth != 8:
+        yield Answer(1)
+    if size > 24:
+        yield Answer(2)
+    if 64 in width_and_height(size):
+        yield Answer(11)
+
+
+def inv_txfm_add_bytes(depth, size, type, stride, coefficients, plane, rows=False):
+    verdict = next(byte_refusals(depth, size), DONE)
+    return verdict if verdict != DONE else inv_txfm_add(depth, size, type, stride, coefficients, plane, rows=rows)
+
+
+def in_bytes(step):
+    """A step or an undo on a plane of bytes."""
+
+    def narrow(depth, *arguments):
+        verdict = next(byte_refusals(depth), DONE)
+        return verdict if verdict != DONE else step(depth, *arguments)
+
+    return narrow
+
+
 # Chroma pairs.
 
 
@@ -283,6 +310,12 @@ CALLS = {
     15: functools.partial(inv_txfm_recon_f32, clamping=True),
     16: functools.partial(inv_txfm_add, clamping=True),
     17: functools.partial(inv_txfm_add, clamping=True),
+    18: inv_txfm_add_bytes,
+    19: inv_txfm_add_bytes,
+    20: functools.partial(inv_txfm_add_bytes, rows=True),
+    21: functools.partial(inv_txfm_add_bytes, rows=True),
+    22: in_bytes(lossless_step),
+    23: in_bytes(lossless_undo),
     28: history_model.history_step,
     29: history_model.history_undo,
     30: history_model.history_withdraw,

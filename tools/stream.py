@@ -36,6 +36,14 @@ def _lossless(name):
     return Call(name, "lossless", ("depth", "stride", "width", "row", "column"), ("levels", "plane"), (1,))
 
 
+def _byte_add(name):
+    return Call(name, "byte add", ("depth", "size", "type", "stride"), ("coefficients", "plane of bytes"), (1,))
+
+
+def _byte_lossless(name):
+    return Call(name, "byte lossless", ("depth", "stride", "width", "row", "column"), ("levels", "plane of bytes"), (1,))
+
+
 def _history(name, arguments, first, written):
     slices = (*first, "plane", "steps", "levels of the history", "index")
     places = tuple(slices.index(slice) for slice in written)
@@ -45,8 +53,9 @@ def _history(name, arguments, first, written):
 _GLASS = ("stride", "width", "rows")
 _MEMORY = ("steps", "levels of the history", "index")
 
-# Slices of unsigned numbers.
+# Slices of unsigned numbers, and of bytes, which a stream has as numbers from 0 to 255.
 UNSIGNED = ("steps", "index")
+BYTES = ("plane of bytes",)
 
 CALLS = {
     1: _recon("inv_txfm_recon_f32"),
@@ -66,6 +75,12 @@ CALLS = {
     15: _recon("inv_txfm_recon_f32_clamped, four lanes"),
     16: _add("inv_txfm_add_clamped"),
     17: _add("inv_txfm_add_clamped, four lanes"),
+    18: _byte_add("inv_txfm_add_bytes"),
+    19: _byte_add("inv_txfm_add_bytes, four lanes"),
+    20: _byte_add("inv_txfm_add_rows_bytes"),
+    21: _byte_add("inv_txfm_add_rows_bytes, four lanes"),
+    22: _byte_lossless("lossless_step_bytes"),
+    23: _byte_lossless("lossless_undo_bytes"),
     28: _history("history_step", ("depth", *_GLASS, "row", "column"), ("levels",), ("plane", *_MEMORY)),
     29: _history("history_undo", _GLASS, (), ("plane", *_MEMORY)),
     30: _history("history_withdraw", (*_GLASS, "number"), (), ("plane", *_MEMORY)),
@@ -77,7 +92,10 @@ CALLS = {
 }
 
 CLAMPED = (14, 15, 16, 17)
-ROWS = (10, 11, 12, 13)
+ROWS = (10, 11, 12, 13, 20, 21)
+
+# The wide call of each call on bytes.
+WIDE = {18: 3, 19: 4, 20: 12, 21: 13, 22: 8, 23: 9}
 
 
 def of_kind(*kinds):
@@ -86,6 +104,7 @@ def of_kind(*kinds):
 
 
 PIXEL_CALLS = of_kind("recon", "add")
+BYTE_CALLS = of_kind("byte add", "byte lossless")
 HISTORY_CALLS = tuple(number for number, call in CALLS.items() if call.trimmed)
 
 
@@ -189,6 +208,8 @@ class Reader:
         values = array.array("I" if name in UNSIGNED else "i", self.take(4 * count))
         if sys.byteorder == "big":
             values.byteswap()
+        if name in BYTES and not all(0 <= value <= 255 for value in values):
+            raise Broken
         return values.tolist()
 
     def argument(self, name):

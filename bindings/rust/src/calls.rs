@@ -86,15 +86,21 @@ macro_rules! recon {
     };
 }
 
-/// The words of an add call: as for a float call.
+/// The words of an add call: as for a float call. A call on bytes has a depth and refusals of its own.
 macro_rules! add {
     ($form:literal, $name:literal, $number:literal) => {
+        add!($form, "8 to 12", "1 to 8", $name, $number)
+    };
+    (bytes: $form:literal, $name:literal, $number:literal) => {
+        add!($form, "8; no side is 64", "1 to 7 or 11", $name, $number)
+    };
+    ($form:literal, $depth:literal, $errors:literal, $name:literal, $number:literal) => {
         concat!(
             "The residual of a block added into a picture at its stride. ", $form, "\n\n",
             "`coeff` has at least sw * sh numbers and `dst` at least (h - 1) * stride + w samples, where w by h is the size `tx` \
              and sw, sh are these sides cut to 32; more are neither read nor written. `txtp` is a type number \
-             ([`txtp`](crate::txtp)), `bd` the depth, 8 to 12.\n\n",
-            "# Errors\n\n1 to 8 of [`Refusal`]; then `dst` is as it was.\n\n",
+             ([`txtp`](crate::txtp)), `bd` the depth, ", $depth, ".\n\n",
+            "# Errors\n\n", $errors, " of [`Refusal`]; then `dst` is as it was.\n\n",
             "# Example\n\n```\nuse panel::{tx_size::RTX_4X8, txtp, Tx1d, TxClass};\n\n",
             "let identity = txtp(Tx1d::Identity, Tx1d::Identity, TxClass::TwoD);\n",
             "let mut coeff = [0; 32];\ncoeff[", $number, "] = 256; // row 1, column 0\n",
@@ -191,6 +197,24 @@ calls! {
     inv_txfm_add_clamped_lanes = panel_inv_txfm_add_clamped_lanes(
         dst: &mut [i32], stride: usize, coeff: &[i32], txtp: usize, tx: usize, bd: u32);
 
+    // The same on bytes.
+    #[doc = add!(bytes: "A plane of bytes. Column order; the bytes are the samples that [`inv_txfm_add`] leaves.",
+        "inv_txfm_add_bytes", "1")]
+    inv_txfm_add_bytes = panel_inv_txfm_add_bytes(
+        dst: &mut [u8], stride: usize, coeff: &[i32], txtp: usize, tx: usize, bd: u32);
+    #[doc = add!(bytes: "Four lanes at a time; answers and bytes are those of [`inv_txfm_add_bytes`].",
+        "inv_txfm_add_bytes_lanes", "1")]
+    inv_txfm_add_bytes_lanes = panel_inv_txfm_add_bytes_lanes(
+        dst: &mut [u8], stride: usize, coeff: &[i32], txtp: usize, tx: usize, bd: u32);
+    #[doc = add!(bytes: "A plane of bytes. Row order; the bytes are the samples that [`inv_txfm_add_rows`] leaves.",
+        "inv_txfm_add_rows_bytes", "4")]
+    inv_txfm_add_rows_bytes = panel_inv_txfm_add_rows_bytes(
+        dst: &mut [u8], stride: usize, coeff: &[i32], txtp: usize, tx: usize, bd: u32);
+    #[doc = add!(bytes: "Four lanes at a time; answers and bytes are those of [`inv_txfm_add_rows_bytes`].",
+        "inv_txfm_add_rows_bytes_lanes", "4")]
+    inv_txfm_add_rows_bytes_lanes = panel_inv_txfm_add_rows_bytes_lanes(
+        dst: &mut [u8], stride: usize, coeff: &[i32], txtp: usize, tx: usize, bd: u32);
+
     /// Chroma pairs, turned in their places: u cos - v sin and u sin + v cos, over 256, halves away from zero.
     ///
     /// The two slices have one length, which may be 0. `sina` and `cosa` are -256 to 256.
@@ -252,6 +276,14 @@ calls! {
         "1, 5, 6, 7, 8 or 10", "lossless_undo", "99")]
     lossless_undo = panel_lossless_undo(
         depth: u32, plane: &mut [i32], stride: usize, width: usize, row: usize, column: usize, level: &[i32]);
+    #[doc = lossless!("A lossless step on a plane of bytes, depth 8; the bytes are the samples that [`lossless_step`] leaves.",
+        "1, 5, 6, 7 or 10", "lossless_step_bytes", "101")]
+    lossless_step_bytes = panel_lossless_step_bytes(
+        depth: u32, plane: &mut [u8], stride: usize, width: usize, row: usize, column: usize, level: &[i32]);
+    #[doc = lossless!("The undo of a lossless step on a plane of bytes, with the same arguments.", "1, 5, 6, 7 or 10",
+        "lossless_undo_bytes", "99")]
+    lossless_undo_bytes = panel_lossless_undo_bytes(
+        depth: u32, plane: &mut [u8], stride: usize, width: usize, row: usize, column: usize, level: &[i32]);
 
     // Histories.
     #[doc = kept!("A lossless step, remembered in lent memory.", "1, 5, 6, 7, 8, 10, 12 or 14", "")]

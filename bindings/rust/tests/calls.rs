@@ -6,6 +6,7 @@ mod common;
 use common::{Answer, Call, Entry, TABLE};
 use panel::{Area, History, Refusal, HISTORY_LEVELS, HISTORY_STEPS};
 use std::collections::BTreeSet;
+use std::convert::TryInto;
 
 /// Collects the refusals of a call, each with everything that was lent before and after.
 struct Refusals {
@@ -48,6 +49,14 @@ fn entry(name: &str) -> &'static Entry {
     TABLE.iter().find(|entry| entry.name == name).expect("a call")
 }
 
+/// Runs a call on a plane of bytes; every number of the plane has to be one.
+fn in_bytes(plane: &mut [i32], run: impl FnOnce(&mut [u8]) -> Answer) -> Answer {
+    let mut bytes: Vec<u8> = plane.iter().map(|&sample| sample.try_into().expect("a byte")).collect();
+    let answer = run(&mut bytes);
+    plane.iter_mut().zip(bytes).for_each(|(sample, byte)| *sample = byte.into());
+    answer
+}
+
 // ---- The pixel calls
 
 /// What a pixel call is lent. An add call works on the plane, a float call from the prediction to the output.
@@ -69,13 +78,14 @@ impl Pixels {
         match call {
             Call::Recon(run) => run(out, coeff, *txtp, *tx, *depth, pred),
             Call::Add(run) => run(plane, *stride, coeff, *txtp, *tx, *depth),
+            Call::AddBytes(run) => in_bytes(plane, |bytes| run(bytes, *stride, coeff, *txtp, *tx, *depth)),
             _ => unreachable!("a pixel call"),
         }
     }
 }
 
 fn draws(call: Call) -> bool {
-    matches!(call, Call::Recon(_) | Call::Add(_))
+    matches!(call, Call::Recon(_) | Call::Add(_) | Call::AddBytes(_))
 }
 
 /// Depth 8, prediction 100, one coefficient: the pixels are `rest`, but for the first of row `row`.
@@ -111,19 +121,20 @@ const SUMS: [Sum; 10] = [
 /// A plane three wider than the block, and numbers beyond those used, which no sample may be: neither read nor written.
 #[test]
 fn pixels_are_the_sums_of_document_01() {
-    const PAD: i32 = -12_345;
     for entry in entries(draws) {
+        let bytes = matches!(entry.call, Call::AddBytes(_));
+        let pad = if bytes { 7 } else { -12_345 };
         let rows = entry.name.contains("_rows");
-        for sum in &SUMS {
+        for sum in SUMS.iter().filter(|sum| !bytes || sum.sides.0.max(sum.sides.1) < 64) {
             let (w, h) = sum.sides;
             let (sw, sh) = (w.min(32), h.min(32));
             let stride = w + 3;
             let number = if rows { sum.at.0 * sw + sum.at.1 } else { sum.at.0 + sum.at.1 * sh };
             let mut lent = Pixels {
                 coeff: [vec![0; sw * sh], vec![i32::MAX; 5]].concat(),
-                pred: [vec![100; w * h], vec![PAD; 5]].concat(),
+                pred: [vec![100; w * h], vec![pad; 5]].concat(),
                 out: vec![-1.0; w * h + 5],
-                plane: vec![PAD; (h - 1) * stride + w + 5],
+                plane: vec![pad; (h - 1) * stride + w + 5],
                 stride,
                 txtp: sum.txtp,
                 tx: sum.tx,
@@ -152,6 +163,7 @@ fn pixel_calls_refuse() {
     for entry in entries(draws) {
         let call = entry.call;
         let adds = !matches!(call, Call::Recon(_));
+        let bytes = matches!(call, Call::AddBytes(_));
         let (low, high) = if entry.name.contains("_clamped") { (-11_864_550, 11_864_549) } else { (-32_768, 32_767) };
         // Size 5, 4x8, has the rectangular scaling; every length is the shortest that is taken.
         let usual = Pixels {
@@ -184,23 +196,35 @@ fn pixel_calls_refuse() {
             refuse(5, 0, 0, &|p| p.stride = 65_537);
             refuse(6, 2, 0, &|p| p.plane.truncate(66));
             refuse(6, 2, 0, &|p| p.plane.clear());
-            refuse(8, 2, 66, &|p| p.plane[66] = -1);
         } else {
             refuse(6, 2, 0, &|p| p.pred.truncate(31));
             refuse(6, 3, 0, &|p| p.out.clear());
-            refuse(8, 2, 31, &|p| p.pred[31] = -1);
         }
         refuse(7, 1, 3, &|p| p.coeff[3] = high + 1);
         refuse(7, 1, 30, &|p| {
             p.coeff[30] = low - 1;
             p.coeff[31] = high + 1;
         });
-        refuse(8, 2, 19, &|p| {
-            p.plane[19] = 256;
-            p.pred[19] = 256;
-            p.plane[20] = -1;
-            p.pred[20] = -1;
-        });
+        if bytes {
+            refuse(1, 0, 0, &|p| p.depth = 9);
+            refuse(2, 0, 0, &|p| p.tx = 25);
+            refuse(11, 0, 0, &|p| {
+                p.tx = 4;
+                p.txtp = 256;
+            });
+            refuse(11, 0, 0, &|p| p.tx = 24);
+        } else {
+            refuse(8, 2, 19, &|p| {
+                p.plane[19] = 256;
+                p.pred[19] = 256;
+                p.plane[20] = -1;
+                p.pred[20] = -1;
+            });
+            refuse(8, 2, if adds { 66 } else { 31 }, &|p| {
+                p.plane[66] = -1;
+                p.pred[31] = -1;
+            });
+        }
         refuse(1, 0, 0, &|p| {
             p.depth = 7;
             p.tx = 25;
@@ -210,6 +234,22 @@ fn pixel_calls_refuse() {
         ends.coeff[0] = high;
         ends.coeff[31] = low;
         assert_eq!(ends.run(call), Ok(()), "{} takes both ends of the range", entry.name);
+    }
+}
+
+/// A plane of bytes is left as the wide call leaves a plane of the same samples.
+#[test]
+fn bytes_are_the_samples_of_the_wide_calls() {
+    let coeff: Vec<i32> = (0..1_024).map(|i| (i * 7_919 + 13) % 4_001 - 2_000).collect();
+    for tx in (0..25).filter(|tx| ![4, 11, 12, 17, 18, 21, 22, 23, 24].contains(tx)) {
+        for entry in entries(|call| matches!(call, Call::AddBytes(_))) {
+            let wide = TABLE.iter().find(|wide| wide.name == entry.name.replace("_bytes", "")).expect("the wide call");
+            let plane: Vec<i32> = (0..36 * 32).map(|i| i * 37 % 256).collect();
+            let mut lent = Pixels { coeff: coeff.clone(), pred: vec![], out: vec![], plane, stride: 36, txtp: 0, tx, depth: 8 };
+            let mut wanted = lent.clone();
+            assert_eq!((lent.run(entry.call), wanted.run(wide.call)), (Ok(()), Ok(())), "{} size {}", entry.name, tx);
+            assert!(lent == wanted, "{} size {}", entry.name, tx);
+        }
     }
 }
 
@@ -317,13 +357,14 @@ impl Change {
         let Change { depth, plane, stride, width, row, column, level } = self;
         match call {
             Call::Block(run) => run(*depth, plane, *stride, *width, *row, *column, level),
+            Call::BlockBytes(run) => in_bytes(plane, |bytes| run(*depth, bytes, *stride, *width, *row, *column, level)),
             _ => unreachable!("a lossless call"),
         }
     }
 }
 
 fn steps(call: Call) -> bool {
-    matches!(call, Call::Block(_))
+    matches!(call, Call::Block(_) | Call::BlockBytes(_))
 }
 
 #[test]
@@ -382,8 +423,12 @@ fn steps_and_undos_refuse() {
             c.level[2] = 262_145;
             c.level[3] = -262_145;
         });
-        refuse(8, 2, 20, &|c| c.plane[20] = 256);
-        refuse(8, 2, 39, &|c| c.plane[39] = -1);
+        if let Call::BlockBytes(_) = call {
+            refuse(1, 0, 0, &|c| c.depth = 9);
+        } else {
+            refuse(8, 2, 20, &|c| c.plane[20] = 256);
+            refuse(8, 2, 39, &|c| c.plane[39] = -1);
+        }
         refuse(10, 2, 22, &|c| {
             c.level[0] = 4;
             c.plane[22] = edge;

@@ -47,6 +47,11 @@ impl Stream<'_> {
         self.nums(count)
     }
 
+    /// A slice of bytes: nums from 0 to 255.
+    fn bytes(&mut self) -> Option<Vec<u8>> {
+        self.slice()?.into_iter().map(|num| num.try_into().ok()).collect()
+    }
+
     fn trimmed(&mut self) -> Option<Vec<i32>> {
         let count = self.size().filter(|&count| count <= LONGEST_TRIMMED)?;
         let given = self.size().filter(|&given| given <= count)?;
@@ -160,6 +165,13 @@ fn case(call: Call, stream: &mut Stream, answers: &mut Answers) -> Option<Answer
             answers.answer(answer);
             answers.slice(&plane);
         }
+        Call::AddBytes(run) => {
+            let (depth, tx, txtp, stride) = (stream.narrow()?, stream.size()?, stream.size()?, stream.size()?);
+            let (coeff, mut plane) = (stream.slice()?, stream.bytes()?);
+            answer = run(&mut plane, stride, &coeff, txtp, tx, depth);
+            answers.answer(answer);
+            answers.nums(plane.into_iter().map(u32::from));
+        }
         Call::Chroma => {
             let (depth, sine, cosine) = (stream.narrow()?, stream.signed()?, stream.signed()?);
             let (mut u, mut v) = (stream.slice()?, stream.slice()?);
@@ -181,6 +193,14 @@ fn case(call: Call, stream: &mut Stream, answers: &mut Answers) -> Option<Answer
             answer = run(depth, &mut plane, stride, width, row, column, &level);
             answers.answer(answer);
             answers.slice(&plane);
+        }
+        Call::BlockBytes(run) => {
+            let (depth, stride, width) = (stream.narrow()?, stream.size()?, stream.size()?);
+            let (row, column) = (stream.size()?, stream.size()?);
+            let (level, mut plane) = (stream.slice()?, stream.bytes()?);
+            answer = run(depth, &mut plane, stride, width, row, column, &level);
+            answers.answer(answer);
+            answers.nums(plane.into_iter().map(u32::from));
         }
         Call::Av1Dct => {
             let (n, bits, mut list) = (stream.size()?, stream.narrow()?, stream.slice()?);
@@ -332,6 +352,10 @@ fn a_broken_stream_ends_with_a_word_of_ones() {
     for broken in [&[99][..], &[6], &[6, 20_001], &[5, 1 << 32, 0, 0, 0, 0], &[5, 8, 1 << 31, 0, 0, 0]] {
         assert_eq!(of(broken), [255; 8]);
     }
+    // A step on two bytes, without levels: a byte of 256 is none.
+    assert_eq!(of(&[22, 8, 4, 4, 0, 0, 0, 2, 256]), [255; 8]);
+    assert_eq!(of(&[22, 8, 4, 4, 0, 0, 0, 2, 255])[..8], [6, 0, 0, 0, 0, 0, 0, 0]);
+    assert_eq!(of(&[22, 8, 4, 4, 0, 0, 0, 2, 255])[24..], [255, 0, 0, 0, 0, 0, 0, 0]);
     let turned = of(&[5, 8, 0, u64::MAX, 0, 0, 99]);
     assert_eq!((&turned[..24], &turned[24..]), (&[0; 24][..], &[255; 8][..]));
 }

@@ -1,8 +1,8 @@
 -- The lossless step and its undo on a plane of bytes, from document 02, section 4. Definitions only.
---     onBytes           a call of the wide plane, on bytes: every depth but 8 is refusal 1; at depth 8 it is the wide call over the same numbers,
---                       read back as bytes
+--     onBytes                 a call of the wide plane, on bytes: every depth but 8 is refusal 1; at depth 8 it is the wide call over the same numbers,
+--                             read back as bytes. Its refusal 8 never comes from a plane of bytes (`step-eight-never`, `undo-eight-never`)
 --     stepBytes, undoBytes    the step and the undo so
---     callBytes         for statements: a step, or an undo
+--     callBytes               for statements: a step, or an undo
 use mathlib.Core.Bool.{cond}
 use mathlib.Core.List.{List, map}
 use Prim.Native.Nat.{ℕ}

@@ -8,13 +8,14 @@
 --     Chroma     pair by pair, and how far a pair drifts that is turned back
 --     Wht        each transform undoes the other, and the difference of two blocks leads from one to the other
 --     History    stepping back, and the wanted block
+--     Bytes      planes of bytes: as the wide calls, stepping back, and the wanted block
 --     Remaining  a history of remaining steps in lent memory
 --     Folding    folding old steps together
 --     Av1        the older edition: two definitions agree
 --     Recursion  the recursive DCT is the flat one
 --     Worked     P1 to P12
 -- The useless versions of document 01, "How much each call owes", and the edits that are refused for being one:
---     a call that refuses everything                     crates/pixels/must-fail/refuses_everything.edit
+--     a call that refuses everything                     crates/verdicts/must-fail/refuses_everything.edit
 --     one fixed picture for all inputs                   crates/pixels/must-fail/one_fixed_picture.edit
 --     a step that touches nothing                        crates/lossless/must-fail/touches_nothing.edit
 --     a stepper that works once and then says Done       no call keeps anything from one to the next; History speaks of stepOf at each place
@@ -27,6 +28,7 @@ pub mod Orders
 pub mod Chroma
 pub mod Wht
 pub mod History
+pub mod Bytes
 pub mod Remaining
 pub mod Folding
 pub mod Av1

@@ -2,11 +2,16 @@
 -- which the other files speak. A lost or changed `ensures`, or a new `requires`, is refused here. From document 01, "How much each call owes".
 -- `a` has the arguments, `x` is the answer, `left` has the parameters at exit; parameter k is at .1 k times and then .0. Assumes nothing.
 use mathlib.Core.Path.{_≡_}
+use mathlib.Core.List.{List}
+use Prim.Native.Nat.{ℕ}
 use borrow.Fn.Kinds.{Out}
 use Rattle.pixels.specs.Calls.{Reading, strict, strictRows, clamped, addOf, floatOf, Exact}
 use Rattle.chroma.specs.Chroma.{cctxOf}
 use Rattle.wht.specs.Calls.{fwhtOf, iwhtOf}
-use Rattle.lossless.specs.Step.{attempt, stepOf, undoOf}
+use Rattle.answers.specs.declared.Answer.{Answer}
+use Rattle.lossless.specs.Step.{Step, attempt, stepOf, undoOf}
+use Rattle.byteplanes.specs.Bytes.{bytesOf}
+use Rattle.bytesteps.specs.Steps.{stepBytes, undoBytes}
 use lib.ListN.{length}
 use Rattle.keeping.specs.Range.{area}
 use Rattle.history.specs.Calls as Remaining
@@ -19,6 +24,8 @@ use Rattle.pixels.proofs.inv_txfm_add.Kinds as Add
 use Rattle.chroma.proofs.cctx.Kinds as Cctx
 use Rattle.wht.proofs.fwht4x4.Kinds as Wht
 use Rattle.lossless.proofs.lossless_step.Kinds as Lossless
+use Rattle.byteplanes.proofs.inv_txfm_add_bytes.Kinds as AddBytes
+use Rattle.bytesteps.proofs.lossless_step_bytes.Kinds as LosslessBytes
 use Rattle.history.proofs.history_step.Kinds as HistoryStep
 use Rattle.history.proofs.history_undo.Kinds as HistoryUndo
 use Rattle.history.proofs.history_withdraw.Kinds as HistoryWithdraw
@@ -44,6 +51,12 @@ use Rattle.wht.proofs.fwht4x4.Reads as fwht4x4
 use Rattle.wht.proofs.iwht4x4.Reads as iwht4x4
 use Rattle.lossless.proofs.lossless_step.Reads as lossless_step
 use Rattle.lossless.proofs.lossless_undo.Reads as lossless_undo
+use Rattle.byteplanes.proofs.inv_txfm_add_bytes.Reads as inv_txfm_add_bytes
+use Rattle.byteplanes.proofs.inv_txfm_add_bytes_lanes.Reads as inv_txfm_add_bytes_lanes
+use Rattle.byteplanes.proofs.inv_txfm_add_rows_bytes.Reads as inv_txfm_add_rows_bytes
+use Rattle.byteplanes.proofs.inv_txfm_add_rows_bytes_lanes.Reads as inv_txfm_add_rows_bytes_lanes
+use Rattle.bytesteps.proofs.lossless_step_bytes.Reads as lossless_step_bytes
+use Rattle.bytesteps.proofs.lossless_undo_bytes.Reads as lossless_undo_bytes
 use Rattle.history.proofs.history_step.Reads as history_step
 use Rattle.history.proofs.history_undo.Reads as history_undo
 use Rattle.history.proofs.history_withdraw.Reads as history_withdraw
@@ -69,6 +82,18 @@ use Rattle.panel.proofs.panel_fwht4x4.Reads as panel_fwht4x4
 use Rattle.panel.proofs.panel_iwht4x4.Reads as panel_iwht4x4
 use Rattle.panel.proofs.panel_lossless_step.Reads as panel_lossless_step
 use Rattle.panel.proofs.panel_lossless_undo.Reads as panel_lossless_undo
+use Rattle.panel.proofs.bytes.panel_inv_txfm_add_bytes.Reads as panel_inv_txfm_add_bytes
+use Rattle.panel_bytes.proofs.panel_inv_txfm_add_bytes.Reads as alone_inv_txfm_add_bytes
+use Rattle.panel.proofs.bytes.panel_inv_txfm_add_bytes_lanes.Reads as panel_inv_txfm_add_bytes_lanes
+use Rattle.panel_bytes.proofs.panel_inv_txfm_add_bytes_lanes.Reads as alone_inv_txfm_add_bytes_lanes
+use Rattle.panel.proofs.bytes.panel_inv_txfm_add_rows_bytes.Reads as panel_inv_txfm_add_rows_bytes
+use Rattle.panel_bytes.proofs.panel_inv_txfm_add_rows_bytes.Reads as alone_inv_txfm_add_rows_bytes
+use Rattle.panel.proofs.bytes.panel_inv_txfm_add_rows_bytes_lanes.Reads as panel_inv_txfm_add_rows_bytes_lanes
+use Rattle.panel_bytes.proofs.panel_inv_txfm_add_rows_bytes_lanes.Reads as alone_inv_txfm_add_rows_bytes_lanes
+use Rattle.panel.proofs.bytes.panel_lossless_step_bytes.Reads as panel_lossless_step_bytes
+use Rattle.panel_bytes.proofs.panel_lossless_step_bytes.Reads as alone_lossless_step_bytes
+use Rattle.panel.proofs.bytes.panel_lossless_undo_bytes.Reads as panel_lossless_undo_bytes
+use Rattle.panel_bytes.proofs.panel_lossless_undo_bytes.Reads as alone_lossless_undo_bytes
 use Rattle.panel.proofs.panel_history_step.Reads as panel_history_step
 use Rattle.panel.proofs.panel_history_undo.Reads as panel_history_undo
 use Rattle.panel.proofs.panel_history_withdraw.Reads as panel_history_withdraw
@@ -212,6 +237,70 @@ lossless-undo-promised = (λ κs a. tt, λ κs a x left p. p)
 
 pub panel-lossless-undo-promised : Promised 2 Lossless.ps Lossless.r panel_lossless_undo.Asked panel_lossless_undo.Learnt undoing
 panel-lossless-undo-promised = (λ κs a. tt, λ κs a x left p. p)
+
+-- ---- planes of bytes: the picture, its stride, coefficients, type, size, depth
+abbrev addingBytes : Reading → Out 2 AddBytes.ps AddBytes.r
+addingBytes how κs a x left =
+    (x, left .0 .now) ≡ bytesOf how (a .0 .now) (a .1 .0) (a .1 .1 .0 .now) (a .1 .1 .1 .0) (a .1 .1 .1 .1 .0) (a .1 .1 .1 .1 .1 .0)
+
+pub inv-txfm-add-bytes-promised : Promised 2 AddBytes.ps AddBytes.r inv_txfm_add_bytes.Asked inv_txfm_add_bytes.Learnt (addingBytes strict)
+inv-txfm-add-bytes-promised = (λ κs a. tt, λ κs a x left p. p)
+
+pub panel-inv-txfm-add-bytes-promised : Promised 2 AddBytes.ps AddBytes.r panel_inv_txfm_add_bytes.Asked panel_inv_txfm_add_bytes.Learnt (addingBytes strict)
+panel-inv-txfm-add-bytes-promised = (λ κs a. tt, λ κs a x left p. p)
+
+pub alone-inv-txfm-add-bytes-promised : Promised 2 AddBytes.ps AddBytes.r alone_inv_txfm_add_bytes.Asked alone_inv_txfm_add_bytes.Learnt (addingBytes strict)
+alone-inv-txfm-add-bytes-promised = (λ κs a. tt, λ κs a x left p. p)
+
+pub inv-txfm-add-bytes-lanes-promised : Promised 2 AddBytes.ps AddBytes.r inv_txfm_add_bytes_lanes.Asked inv_txfm_add_bytes_lanes.Learnt (addingBytes strict)
+inv-txfm-add-bytes-lanes-promised = (λ κs a. tt, λ κs a x left p. p)
+
+pub panel-inv-txfm-add-bytes-lanes-promised : Promised 2 AddBytes.ps AddBytes.r panel_inv_txfm_add_bytes_lanes.Asked panel_inv_txfm_add_bytes_lanes.Learnt (addingBytes strict)
+panel-inv-txfm-add-bytes-lanes-promised = (λ κs a. tt, λ κs a x left p. p)
+
+pub alone-inv-txfm-add-bytes-lanes-promised : Promised 2 AddBytes.ps AddBytes.r alone_inv_txfm_add_bytes_lanes.Asked alone_inv_txfm_add_bytes_lanes.Learnt (addingBytes strict)
+alone-inv-txfm-add-bytes-lanes-promised = (λ κs a. tt, λ κs a x left p. p)
+
+pub inv-txfm-add-rows-bytes-promised : Promised 2 AddBytes.ps AddBytes.r inv_txfm_add_rows_bytes.Asked inv_txfm_add_rows_bytes.Learnt (addingBytes strictRows)
+inv-txfm-add-rows-bytes-promised = (λ κs a. tt, λ κs a x left p. p)
+
+pub panel-inv-txfm-add-rows-bytes-promised : Promised 2 AddBytes.ps AddBytes.r panel_inv_txfm_add_rows_bytes.Asked panel_inv_txfm_add_rows_bytes.Learnt (addingBytes strictRows)
+panel-inv-txfm-add-rows-bytes-promised = (λ κs a. tt, λ κs a x left p. p)
+
+pub alone-inv-txfm-add-rows-bytes-promised : Promised 2 AddBytes.ps AddBytes.r alone_inv_txfm_add_rows_bytes.Asked alone_inv_txfm_add_rows_bytes.Learnt (addingBytes strictRows)
+alone-inv-txfm-add-rows-bytes-promised = (λ κs a. tt, λ κs a x left p. p)
+
+pub inv-txfm-add-rows-bytes-lanes-promised : Promised 2 AddBytes.ps AddBytes.r inv_txfm_add_rows_bytes_lanes.Asked inv_txfm_add_rows_bytes_lanes.Learnt (addingBytes strictRows)
+inv-txfm-add-rows-bytes-lanes-promised = (λ κs a. tt, λ κs a x left p. p)
+
+pub panel-inv-txfm-add-rows-bytes-lanes-promised : Promised 2 AddBytes.ps AddBytes.r panel_inv_txfm_add_rows_bytes_lanes.Asked panel_inv_txfm_add_rows_bytes_lanes.Learnt (addingBytes strictRows)
+panel-inv-txfm-add-rows-bytes-lanes-promised = (λ κs a. tt, λ κs a x left p. p)
+
+pub alone-inv-txfm-add-rows-bytes-lanes-promised : Promised 2 AddBytes.ps AddBytes.r alone_inv_txfm_add_rows_bytes_lanes.Asked alone_inv_txfm_add_rows_bytes_lanes.Learnt (addingBytes strictRows)
+alone-inv-txfm-add-rows-bytes-lanes-promised = (λ κs a. tt, λ κs a x left p. p)
+
+-- ---- planes of bytes, lossless steps: depth, plane, stride, width, row, column, levels
+abbrev steppingBytes : (List ℕ → Step → Answer × List ℕ) → Out 2 LosslessBytes.ps LosslessBytes.r
+steppingBytes call κs a x left =
+    (x, left .1 .0 .now) ≡ call (a .1 .0 .now) (attempt (a .0) (a .1 .1 .0) (a .1 .1 .1 .0) (a .1 .1 .1 .1 .0) (a .1 .1 .1 .1 .1 .0) (a .1 .1 .1 .1 .1 .1 .0 .now))
+
+pub lossless-step-bytes-promised : Promised 2 LosslessBytes.ps LosslessBytes.r lossless_step_bytes.Asked lossless_step_bytes.Learnt (steppingBytes stepBytes)
+lossless-step-bytes-promised = (λ κs a. tt, λ κs a x left p. p)
+
+pub panel-lossless-step-bytes-promised : Promised 2 LosslessBytes.ps LosslessBytes.r panel_lossless_step_bytes.Asked panel_lossless_step_bytes.Learnt (steppingBytes stepBytes)
+panel-lossless-step-bytes-promised = (λ κs a. tt, λ κs a x left p. p)
+
+pub alone-lossless-step-bytes-promised : Promised 2 LosslessBytes.ps LosslessBytes.r alone_lossless_step_bytes.Asked alone_lossless_step_bytes.Learnt (steppingBytes stepBytes)
+alone-lossless-step-bytes-promised = (λ κs a. tt, λ κs a x left p. p)
+
+pub lossless-undo-bytes-promised : Promised 2 LosslessBytes.ps LosslessBytes.r lossless_undo_bytes.Asked lossless_undo_bytes.Learnt (steppingBytes undoBytes)
+lossless-undo-bytes-promised = (λ κs a. tt, λ κs a x left p. p)
+
+pub panel-lossless-undo-bytes-promised : Promised 2 LosslessBytes.ps LosslessBytes.r panel_lossless_undo_bytes.Asked panel_lossless_undo_bytes.Learnt (steppingBytes undoBytes)
+panel-lossless-undo-bytes-promised = (λ κs a. tt, λ κs a x left p. p)
+
+pub alone-lossless-undo-bytes-promised : Promised 2 LosslessBytes.ps LosslessBytes.r alone_lossless_undo_bytes.Asked alone_lossless_undo_bytes.Learnt (steppingBytes undoBytes)
+alone-lossless-undo-bytes-promised = (λ κs a. tt, λ κs a x left p. p)
 
 -- ---- histories: plane, stride, width, rows, and the lent memory: steps, levels, index
 abbrev remembering : Out 5 HistoryStep.ps HistoryStep.r

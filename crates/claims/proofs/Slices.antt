@@ -33,10 +33,10 @@ use Rattle.claims.specs.Slices.{byNumber, enough, addSlice, floatSlice, 
 -- ---- pixels: six is what 6 names
 module _ (six : ℕ) where
   -- an answer names the slice of its number
-  abbrev Names : Answer → Type 0
+  abbrev pub Names : Answer → Type 0
   Names a = a .slice ≡ byNumber six 1 (a .number)
 
-  kinds-names : (tx txtp depth : ℕ) (rest : Answer) → Names rest → Names (kinds tx txtp depth rest)
+  pub kinds-names : (tx txtp depth : ℕ) (rest : Answer) → Names rest → Names (kinds tx txtp depth rest)
   kinds-names tx txtp depth rest h =
       either Names (leb 8 depth && leb depth 12) _ _ (λ e. refl) (λ e.
       either Names (leb tx 24) _ _ (λ e. refl) (λ e.

@@ -1,4 +1,6 @@
 // The calls under their C names, as include/panel.h declares them: each is the call that it wraps, with its promise.
+pub mod bytes; // The calls on planes of bytes.
+
 ghost use mathlib.Core.Path.{_≡_};
 ghost use Rattle.answers.specs.declared.Answer.{Answer};
 ghost use Rattle.pixels.specs.Calls.{addOf, floatOf, Exact, strict, strictRows, clamped};

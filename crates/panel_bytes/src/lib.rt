@@ -1,5 +1,6 @@
 // The calls on planes of bytes under their C names, as include/panel.h declares them: each is the call that it wraps, with its promise.
-// The build for the eight-bit panel of document 02, section 4, has these alone.
+// This file stands twice, since an archive has the exports of its own crate only: alone in `panel_bytes`, the build for the eight-bit
+// panel of document 02, section 4, and in `panel` beside the others. The gate compares the two.
 ghost use mathlib.Core.Path.{_≡_};
 ghost use Rattle.answers.specs.declared.Answer.{Answer};
 ghost use Rattle.pixels.specs.Calls.{strict, strictRows};

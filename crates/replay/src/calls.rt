@@ -9,7 +9,7 @@ use stream::nums;
 // Whether there is a call of that number.
 pub fn known(call: u64) -> bool {
     match call {
-        1..=17 | 28..=33 | 34 | 35 => true,
+        1..=23 | 28..=33 | 34 | 35 => true,
         _ => false,
     }
 }
@@ -18,6 +18,14 @@ pub fn known(call: u64) -> bool {
 pub fn remembers(call: u64) -> bool {
     match call {
         28..=33 => true,
+        _ => false,
+    }
+}
+
+// Whether a call works on a plane of bytes.
+pub fn on_bytes(call: u64) -> bool {
+    match call {
+        18..=23 => true,
         _ => false,
     }
 }
@@ -43,7 +51,7 @@ pub fn words(call: u64) -> usize
         30 | 31 => 4,
         28 => 6,
         1 | 2 | 5 | 10 | 11 | 14 | 15 => 3,
-        3 | 4 | 12 | 13 | 16 | 17 => 4,
+        3 | 4 | 12 | 13 | 16..=21 => 4,
         _ => 5,
     }
 }
@@ -100,6 +108,20 @@ fn add(call: u64, words: [u64; 6], coeff: &[i32], plane: &mut [i32]) -> Answer {
     }
 }
 
+// The add calls on a plane of bytes.
+fn add_bytes(call: u64, words: [u64; 6], coeff: &[i32], plane: &mut [u8]) -> Answer {
+    let depth = nums::low(words[0]);
+    let tx = words[1] as usize;
+    let txtp = words[2] as usize;
+    let stride = words[3] as usize;
+    match call {
+        18 => byteplanes::inv_txfm_add_bytes(plane, stride, coeff, txtp, tx, depth),
+        19 => byteplanes::inv_txfm_add_bytes_lanes(plane, stride, coeff, txtp, tx, depth),
+        20 => byteplanes::inv_txfm_add_rows_bytes(plane, stride, coeff, txtp, tx, depth),
+        _ => byteplanes::inv_txfm_add_rows_bytes_lanes(plane, stride, coeff, txtp, tx, depth),
+    }
+}
+
 // Chroma pairs.
 fn chroma_pairs(words: [u64; 6], u: &mut [i32], v: &mut [i32]) -> Answer {
     let depth = nums::low(words[0]);
@@ -118,6 +140,27 @@ fn step(call: u64, words: [u64; 6], levels: &[i32], plane: &mut [i32]) -> Answer
     match call {
         8 => lossless::lossless_step(depth, plane, stride, width, row, column, levels),
         _ => lossless::lossless_undo(depth, plane, stride, width, row, column, levels),
+    }
+}
+
+// A lossless step on a plane of bytes, and its undo.
+fn step_bytes(call: u64, words: [u64; 6], levels: &[i32], plane: &mut [u8]) -> Answer {
+    let depth = nums::low(words[0]);
+    let stride = words[1] as usize;
+    let width = words[2] as usize;
+    let row = words[3] as usize;
+    let column = words[4] as usize;
+    match call {
+        22 => bytesteps::lossless_step_bytes(depth, plane, stride, width, row, column, levels),
+        _ => bytesteps::lossless_undo_bytes(depth, plane, stride, width, row, column, levels),
+    }
+}
+
+// Runs a call on a plane of bytes.
+pub fn run_bytes(call: u64, words: [u64; 6], a: &[i32], plane: &mut [u8]) -> Answer {
+    match call {
+        22 | 23 => step_bytes(call, words, a, plane),
+        _ => add_bytes(call, words, a, plane),
     }
 }
 

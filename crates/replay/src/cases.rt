@@ -1,10 +1,13 @@
 // One case of the stream: read, run and answered. Each function reads one slice and hands on what was read, so that no proof
 // speaks of two. All say whether to go on.
 ghost use mathlib.Core.Path.{_≡_};
+ghost use Prim.Native.Nat.{_≤_};
 ghost use lib.ListN.{length};
 ghost use Rattle.replay.specs.Rooms.{ByteRoom, Room, Roomy, Kept};
 use crate::calls;
 use crate::histories;
+use answers::Answer;
+use stream::nums;
 use stream::slices;
 
 // A stream that breaks the rules is answered with this word, and nothing more.
@@ -31,10 +34,48 @@ fn write_pair(call: u64, bytes: &mut [u8], a: &[i32], b: &[i32]) -> bool
     }
 }
 
+// The numbers of b as bytes, at the start of the room for bytes; says whether each is one.
+fn narrow(b: &[i32], bytes: &mut [u8]) -> bool
+    requires { ⌜ Kept (now bytes) (now b) ⌝ }
+{
+    let n = b.len();
+    nums::narrowed(b, &mut bytes[..n])
+}
+
+// Runs a case on a plane of n bytes, which stand at the start of the room for bytes.
+fn run_narrow(call: u64, words: [u64; 6], a: &[i32], bytes: &mut [u8], n: usize) -> Answer
+    requires { ⌜ n ≤ length (now bytes) ⌝ }
+{
+    calls::run_bytes(call, words, a, &mut bytes[..n])
+}
+
+// The bytes at the start of their room as the numbers of b.
+fn widen(bytes: &[u8], b: &mut [i32])
+    requires { ⌜ Kept (now bytes) (now b) ⌝ }
+{
+    let n = b.len();
+    nums::widen(&bytes[..n], b);
+}
+
+// Runs and answers a case on a plane of bytes, which b has as numbers.
+fn answer_bytes(call: u64, words: [u64; 6], bytes: &mut [u8], a: &[i32], b: &mut [i32]) -> bool
+    requires { ⌜ Kept (now bytes) (now b) ⌝ }
+{
+    if !narrow(&b[..], bytes) {
+        return broken();
+    }
+    let r = run_narrow(call, words, a, bytes, b.len());
+    widen(&bytes[..], b);
+    slices::write_answer(r) && slices::write_slice(bytes, b)
+}
+
 // Runs and answers a case of two slices.
 fn answer(call: u64, words: [u64; 6], bytes: &mut [u8], a: &mut [i32], b: &mut [i32]) -> bool
     requires { ⌜ Kept (now bytes) (now a) × Kept (now bytes) (now b) ⌝ }
 {
+    if calls::on_bytes(call) {
+        return answer_bytes(call, words, bytes, a, b);
+    }
     let r = calls::run(call, words, a, b);
     slices::write_answer(r) && write_pair(call, bytes, a, b)
 }

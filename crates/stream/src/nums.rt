@@ -1,7 +1,8 @@
 // Numbers as bytes, the lowest byte first, and bits as signed numbers in two's complement.
 ghost use Prim.Native.Nat.{_+_, _*_, _%_, _≤_};
 ghost use mathlib.Core.Path.{_≡_};
-ghost use lib.IntN.{pos};
+ghost use mathlib.Core.Bool.{true};
+ghost use lib.IntN.{pos, natAbs};
 ghost use lib.ListN.{length, getD};
 ghost use mir.Syntax.{w32, w64};
 ghost use mir.Val.{toZ, ofZ};
@@ -137,6 +138,35 @@ pub fn resigned(list: &[u32], out: &mut [i32])
     let mut i = 0;
     while i < list.len() {
         out[i] = signed(list[i]);
+        i += 1;
+    }
+}
+
+// Numbers as bytes, as far as each is one; says whether all are.
+pub fn narrowed(list: &[i32], out: &mut [u8]) -> bool
+    requires { ⌜ length (now list) ≡ length (now out) ⌝ }
+    ensures { λ r. ⌜ (r ≡ true → now (out .exit) ≡ tab (length (now (list .entry))) (λ k. natAbs (getD (now (list .entry)) k (pos 0)))) ⌝ }
+{
+    let mut i = 0;
+    while i < list.len() {
+        let z = list[i];
+        if !ranges::inside(z, 0, 255) {
+            return false;
+        }
+        out[i] = octets::byte(z);
+        i += 1;
+    }
+    true
+}
+
+// Bytes as numbers.
+pub fn widen(list: &[u8], out: &mut [i32])
+    requires { ⌜ length (now list) ≡ length (now out) ⌝ }
+    ensures { λ _. ⌜ now (out .exit) ≡ tab (length (now (list .entry))) (λ k. pos (getD (now (list .entry)) k 0)) ⌝ }
+{
+    let mut i = 0;
+    while i < list.len() {
+        out[i] = octets::number(list[i]);
         i += 1;
     }
 }
