@@ -1,15 +1,11 @@
 -- Laws of the kernels. Each file opens with the list of its laws.
---     Front      the first places of an array, after a call filled them
 --     ByRows     tables by rows: what `inv_dst` asks of a table of a known length, and what it leaves
 --     Folds      the butterfly in place, of dense products
---     Levels     the states of the loop of `dct_by`
 --     EvenOdd    the DCT of 2n numbers from those of the even and the odd inputs
 --     ByCode     which kernel a length and a kind code have
 --     Recursion  the recursive DCT of 16 is the flat one
-pub mod Front
 pub mod ByRows
 pub mod Folds
-pub mod Levels
 pub mod EvenOdd
 pub mod ByCode
 pub mod Recursion

@@ -2,7 +2,6 @@
 --     dctOf n xs           the dense product by columns with the table of length n
 --     Recursed n           the lengths that `dct_recurse` takes
 --     OddTable n t         t is the source's table of the odd half of a DCT of 2n numbers
---     DenseTable n t       t is the source's dense table of a DCT of n numbers
 use mathlib.Core.Path.{_≡_}
 use mathlib.Core.Logic.{_⊎_}
 use mathlib.Core.List.{List}
@@ -10,7 +9,6 @@ use Prim.Native.Nat.{ℕ}
 use lib.IntN.{ℤ}
 use Rattle.whole.specs.Sums.{denseC}
 use Rattle.tables.specs.Half.{half8, half16}
-use Rattle.tables.specs.Dct.{dct16, dct32}
 use Rattle.tables.specs.Dense.{dctTable}
 
 abbrev pub dctOf : ℕ → List ℤ → List ℤ
@@ -21,6 +19,3 @@ Recursed n = (n ≡ 4) ⊎ ((n ≡ 8) ⊎ (n ≡ 16))
 
 abbrev pub OddTable : ℕ → List ℤ → Type 0
 OddTable n t = ((n ≡ 4) × (t ≡ half8)) ⊎ ((n ≡ 8) × (t ≡ half16))
-
-abbrev pub DenseTable : ℕ → List ℤ → Type 0
-DenseTable n t = ((n ≡ 16) × (t ≡ dct16)) ⊎ ((n ≡ 32) × (t ≡ dct32))

@@ -1,7 +1,5 @@
 -- What the contracts of the kernels cite beside the dense meaning in `tables`.
 --     Inputs       what every kernel takes
---     Rows         tables by rows
 --     Dct          the DCT of each length, and its tables
 pub mod Inputs
-pub mod Rows
 pub mod Dct

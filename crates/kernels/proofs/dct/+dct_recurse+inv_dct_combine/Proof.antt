@@ -5,7 +5,7 @@ use mathlib.Core.Logic.{inl, inr}
 use native.Mathlib.Omega.{arith}
 use borrow.Author.Needs.{needs}
 use Rattle.kernels.specs.Dct.{dctOf, Recursed}
-use Rattle.kernels.proofs.Front.{front-count, front-inside}
+use Rattle.rows.proofs.Front.{front-count, front-inside}
 use Rattle.kernels.proofs.EvenOdd.{odd-sizes, room, Halved, halved, front, even-count, even-asks, join-asks, join-left}
 use Prim.Native.Nat.{ℕ, _+_, _<_}
 use lib.ListN.{length}
@@ -17,9 +17,9 @@ use Rattle.kernels.proofs.dct.+dct_recurse+inv_dct_combine.Lts-dct_recu
 use Rattle.kernels.proofs.dct.inv_dct_combine.Reads as inv-dct-combine
 use Rattle.kernels.proofs.dct.inv_dct_combine.Kinds as inv-dct-combine-kinds
 use Rattle.kernels.proofs.dct.+dct_recurse+inv_dct_combine.Lts-inv_dct_combine as inv-dct-combine-lts
-use Rattle.kernels.proofs.butterfly.evens.Reads as evens-reads
-use Rattle.kernels.proofs.butterfly.join.Reads as join-reads
-use Rattle.kernels.proofs.butterfly.odds.Reads as odds-reads
+use Rattle.rows.proofs.butterfly.evens.Reads as evens-reads
+use Rattle.rows.proofs.butterfly.join.Reads as join-reads
+use Rattle.rows.proofs.butterfly.odds.Reads as odds-reads
 use Rattle.kernels.proofs.dct.four.Reads as four-reads
 use Rattle.kernels.proofs.dct.+dct_recurse+inv_dct_combine.{statement}
 use Rattle.kernels.proofs.dct.+dct_recurse+inv_dct_combine.Tie.{close}
@@ -189,7 +189,7 @@ inv-dct-combine-array-borrow-prefix-odd :
       join-reads.Asked,
       join-reads.Learnt,
     ) (inv-dct-combine-at t) inv-dct-combine.Post
-inv-dct-combine-array-borrow-prefix-odd t c = omega (arith, odd-sizes (c .before .pre .1 .0) .1)
+inv-dct-combine-array-borrow-prefix-odd t c = omega (arith, odd-sizes (c .before .pre .1 .0) .0)
 
 inv-dct-combine-slice-aggregate-odds : (t : ℕ) → inv-dct-combine-lts.Need-slice-aggregate-odds (
   odds-reads.Asked,
@@ -263,7 +263,9 @@ inv-dct-combine-dct-recurse-requires : (t : ℕ) → inv-dct-combine-lts.Need-dc
   join-reads.Asked,
   join-reads.Learnt,
 ) (inv-dct-combine-at t) inv-dct-combine.Post
-inv-dct-combine-dct-recurse-requires t c κs = even-asks (half t (c .before .before)) (c .before .before .before .before .before .before .before .before .pre .0)
+inv-dct-combine-dct-recurse-requires t c κs =
+    let s = c .before .before .before .before .before .before .before .before in
+    even-asks (half t (c .before .before)) (s .pre .1 .0) (c .before .before .before .before .before .before .before .before .pre .0)
 
 inv-dct-combine-array-share-prefix-odd : (t : ℕ) → inv-dct-combine-lts.Need-array-share-prefix-odd (
   odds-reads.Asked,

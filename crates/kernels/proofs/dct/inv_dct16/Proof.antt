@@ -1,5 +1,5 @@
 -- `kernels::dct::inv_dct16` meets its contract: the head of the table for at most four live inputs, else the whole, the others cleared. Assumes nothing.
-use mathlib.Core.Path.{_≡_, refl, sym, ap, _∙_, subst}
+use mathlib.Core.Path.{refl, sym, ap, _∙_, subst}
 use mathlib.Core.Logic.{inl, inr}
 use borrow.Author.Needs.{needs}
 use Rattle.whole.specs.Sums.{denseC}

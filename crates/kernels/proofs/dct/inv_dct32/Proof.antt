@@ -1,6 +1,6 @@
 -- `kernels::dct::inv_dct32` meets its contract: the head of the table for at most four live inputs, else the whole, the others cleared. Assumes nothing.
-use mathlib.Core.Path.{_≡_, refl, sym, ap, _∙_, subst}
-use mathlib.Core.Logic.{inl, inr}
+use mathlib.Core.Path.{refl, sym, ap, _∙_, subst}
+use mathlib.Core.Logic.{inr}
 use borrow.Author.Needs.{needs}
 use Rattle.whole.specs.Sums.{denseC}
 use Rattle.tables.specs.Dct.{dct32}

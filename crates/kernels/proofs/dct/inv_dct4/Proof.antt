@@ -1,5 +1,5 @@
 -- `kernels::dct::inv_dct4` meets its contract: the numbers that are not live are cleared. Assumes nothing.
-use mathlib.Core.Path.{_≡_, sym, ap, _∙_, subst}
+use mathlib.Core.Path.{sym, ap, _∙_, subst}
 use borrow.Author.Needs.{needs}
 use Rattle.whole.specs.Sums.{denseC}
 use Rattle.tables.specs.Dct.{dct4}

@@ -1,6 +1,6 @@
 -- `kernels::dct::inv_dct8` meets its contract: the head of the table for at most four live inputs, else the whole, the others cleared. Assumes nothing.
-use mathlib.Core.Path.{_≡_, refl, sym, ap, _∙_, subst}
-use mathlib.Core.Logic.{inl, inr}
+use mathlib.Core.Path.{refl, sym, ap, _∙_, subst}
+use mathlib.Core.Logic.{inl}
 use borrow.Author.Needs.{needs}
 use Rattle.whole.specs.Sums.{denseC}
 use Rattle.tables.specs.Dct.{dct8}
@@ -17,11 +17,8 @@ head-requires c κs = (inl (refl, refl), c .before .before .if1 .taken, c .befor
 clear-requires : tie.Need-clear-requires
 clear-requires c κs = search needs
 
-slice-aggregate-inv-dct-combine : tie.Need-slice-aggregate-inv-dct-combine
-slice-aggregate-inv-dct-combine c = search needs
-
-inv-dct-combine-requires : tie.Need-inv-dct-combine-requires
-inv-dct-combine-requires c κs = (inl (refl, refl), subst (Inputs 8) (sym (c .before .before .before .clear .ensures)) (c .before .before .before .before .before .before .pre .1))
+flat8-requires : tie.Need-flat8-requires
+flat8-requires c κs = subst (Inputs 8) (sym (c .before .before .clear .ensures)) (c .before .before .before .before .before .pre .1)
 
 same-length : tie.Need-same-length
 same-length c = search needs
@@ -33,7 +30,7 @@ same-length-2 : tie.Need-same-length-2
 same-length-2 c = search needs
 
 returns-2 : tie.Need-returns-2
-returns-2 c = c .before .inv-dct-combine .ensures ∙ ap (denseC 8 dct8) (c .before .before .before .before .before .clear .ensures)
+returns-2 c = c .before .flat8 .ensures ∙ ap (denseC 8 dct8) (c .before .before .before .before .clear .ensures)
 
 pub inv-dct8-spec : {M : Type 1} → statement M
-inv-dct8-spec = tie.close (tie.spec slice-aggregate-head head-requires clear-requires slice-aggregate-inv-dct-combine inv-dct-combine-requires same-length returns same-length-2 returns-2)
+inv-dct8-spec = tie.close (tie.spec slice-aggregate-head head-requires clear-requires flat8-requires same-length returns same-length-2 returns-2)

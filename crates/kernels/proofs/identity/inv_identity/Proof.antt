@@ -1,6 +1,5 @@
 -- `kernels::identity::inv_identity` meets its contract: the numbers that are not live are cleared. Assumes nothing.
 use mathlib.Core.Path.{_≡_, sym, ap, _∙_, subst}
-use mathlib.Core.List.{List}
 use Prim.Native.Nat.{_^_, _<_}
 use lib.IntN.{ℤ, natAbs}
 use lib.ListN.{length}
