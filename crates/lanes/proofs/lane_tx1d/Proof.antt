@@ -161,50 +161,60 @@ returns-10 c = gives8 (c .before .before) (c .g-flipddt8 .result) (rest8 (c .bef
 
 returns-11 : tie.Need-returns-11
 unfolding denseOf
-returns-11 c = gives16 (c .before .before) (c .g-dct16 .result) (c .before .match4 .keys1) (c .g-dct16 .ensures)
+returns-11 c = gives32 (c .before .before) (c .g-dct32 .result) (c .before .match5 .keys1) (c .g-dct32 .ensures)
 
 returns-12 : tie.Need-returns-12
 unfolding denseOf
-returns-12 c = gives16 (c .before .before) (c .g-id3 .result) (c .before .match4 .keys2) (c .g-id3 .ensures)
+returns-12 c = let p = rest32 (c .before) in pick-gives lane (c .before .before .before .args .c) (c .before .before .before .args .live) (c .g-id4 .result) (p .0) (p .1) (c .g-id4 .ensures)
 
 returns-13 : tie.Need-returns-13
 unfolding denseOf
-returns-13 c = gives16 (c .before .before) (c .g-adst16 .result) (c .before .match4 .keys3) (c .g-adst16 .ensures)
+returns-13 c = gives16 (c .before .before) (c .g-dct16 .result) (c .before .match4 .keys1) (c .g-dct16 .ensures)
 
 returns-14 : tie.Need-returns-14
 unfolding denseOf
-returns-14 c = gives16 (c .before .before) (c .g-flipadst16 .result) (c .before .match4 .keys4) (c .g-flipadst16 .ensures)
+returns-14 c = gives16 (c .before .before) (c .g-id3 .result) (c .before .match4 .keys2) (c .g-id3 .ensures)
 
 returns-15 : tie.Need-returns-15
 unfolding denseOf
-returns-15 c = gives16 (c .before .before) (c .g-ddt16 .result) (c .before .match4 .keys5) (c .g-ddt16 .ensures)
+returns-15 c = gives16 (c .before .before) (c .g-adst16 .result) (c .before .match4 .keys3) (c .g-adst16 .ensures)
 
 returns-16 : tie.Need-returns-16
 unfolding denseOf
-returns-16 c = gives16 (c .before .before) (c .g-flipddt16 .result) (rest16 (c .before)) (c .g-flipddt16 .ensures)
+returns-16 c = gives16 (c .before .before) (c .g-flipadst16 .result) (c .before .match4 .keys4) (c .g-flipadst16 .ensures)
 
 returns-17 : tie.Need-returns-17
 unfolding denseOf
-returns-17 c = gives32 (c .before .before) (c .g-dct32 .result) (c .before .match5 .keys1) (c .g-dct32 .ensures)
+returns-17 c = gives16 (c .before .before) (c .g-ddt16 .result) (c .before .match4 .keys5) (c .g-ddt16 .ensures)
 
 returns-18 : tie.Need-returns-18
 unfolding denseOf
-returns-18 c = let p = rest32 (c .before) in pick-gives lane (c .before .before .before .args .c) (c .before .before .before .args .live) (c .g-id4 .result) (p .0) (p .1) (c .g-id4 .ensures)
+returns-18 c = gives16 (c .before .before) (c .g-flipddt16 .result) (rest16 (c .before)) (c .g-flipddt16 .ensures)
 
 pub lane-tx1d-spec : {M : Type 1} → statement M
 lane-tx1d-spec =
     tie.close
     (tie.spec
     g-dct4-requires
+    returns
     g-id-requires
+    returns-2
     g-adst4-requires
+    returns-3
     g-flipadst4-requires
+    returns-4
     g-dct8-requires
+    returns-5
     g-id-requires-2
+    returns-6
     g-adst8-requires
+    returns-7
     g-flipadst8-requires
+    returns-8
     g-ddt8-requires
+    returns-9
     g-flipddt8-requires
+    returns-10
     g-dct16-requires
     g-id-requires-3
     g-adst16-requires
@@ -212,18 +222,8 @@ lane-tx1d-spec =
     g-ddt16-requires
     g-flipddt16-requires
     g-dct32-requires
-    g-id-requires-4
-    returns
-    returns-2
-    returns-3
-    returns-4
-    returns-5
-    returns-6
-    returns-7
-    returns-8
-    returns-9
-    returns-10
     returns-11
+    g-id-requires-4
     returns-12
     returns-13
     returns-14

@@ -1,27 +1,27 @@
--- `lanes::dct::g_dct16` meets its contract: the head of the table for at most four live records, else the whole, the others zeros. Assumes nothing.
-use mathlib.Core.Path.{_≡_, refl, sym, ap, _∙_, subst}
+-- `lanes::dct::head16` meets its contract: the first four records are those of the head of the table. Assumes nothing.
+use mathlib.Core.Path.{_≡_, refl, sym, _∙_, subst}
 use mathlib.Core.Logic.{inl, inr}
 use mathlib.Core.List.{List, [], _∷_}
-use Prim.Native.Nat.{ℕ, _^_, _≤_}
+use Prim.Native.Nat.{ℕ, _^_}
 use native.Mathlib.Omega.{arith}
 use borrow.Author.Needs.{needs}
 use lib.Dec.{lit≤}
 use lib.IntN.{ℤ}
 use lib.ListN.{length, take}
-use Rattle.whole.specs.Sums.{denseC, Within}
+use Rattle.whole.specs.Sums.{Within}
 use Rattle.tables.specs.Dct.{dct16}
 use Rattle.tables.specs.Dense.{firstOf}
 use Rattle.tables.proofs.Heads.{head-four}
 use Rattle.tables.proofs.LiveLanes.{four-are}
 use Rattle.lanes.specs.View.{lane, cols}
 use Rattle.lanes.proofs.Headed.{within-front}
-use Rattle.lanes.proofs.dct.g_dct16.Statement.{statement}
-use Rattle.lanes.proofs.dct.g_dct16.Tie as tie
+use Rattle.lanes.proofs.dct.head16.Statement.{statement}
+use Rattle.lanes.proofs.dct.head16.Tie as tie
 
 -- the four records that are handed over
 module _ (u : tie.After-upto4) where
   abbrev s : tie.Start
-  s = u .before .before .before .before .before
+  s = u .before .before .before .before
 
   abbrev four : ℕ → List ℤ
   four k = lane (u .before .before .before .upto .result) k ∷ lane (u .before .before .upto2 .result) k ∷ lane (u .before .upto3 .result) k ∷ lane (u .upto4 .result) k ∷ []
@@ -52,26 +52,21 @@ slice-aggregate-g-head c = search needs
 g-head-requires : tie.Need-g-head-requires
 g-head-requires c κs =
     let u = c .before in
-    (inr (inl (refl, refl)), λ k. subst (Within (2 ^ 19)) (sym (are u k)) (within-front 4 (2 ^ 19) (firstOf (s u .args .live) (take 16 (cols k (s u .args .c)))) (s u .pre .1 k)))
-
-kept-requires : tie.Need-kept-requires
-kept-requires c κs = search needs
-
-slice-aggregate-g-dct16-by : tie.Need-slice-aggregate-g-dct16-by
-slice-aggregate-g-dct16-by c = search needs
-
-g-dct16-by-requires : tie.Need-g-dct16-by-requires
-g-dct16-by-requires c κs = (refl, λ k. subst (Within (2 ^ 19)) (sym (c .before .kept .ensures k)) (c .before .before .before .pre .1 k))
+    (inr (inl (refl, refl)), λ k. subst (Within (2 ^ 19)) (sym (are u k)) (within-front 4 (2 ^ 19) (firstOf (s u .args .live) (take 16 (cols k (s u .args .c)))) (s u .pre .1 .1 k)))
 
 returns : tie.Need-returns
 returns c k =
     let u = c .before .before in
-    c .g-head .ensures k ∙ head-four 16 (s u .args .live) dct16 (take 16 (cols k (s u .args .c))) (four u k) (u .before .before .before .before .if1 .taken) (are u k)
+    c .g-head .ensures k ∙ head-four 16 (s u .args .live) dct16 (take 16 (cols k (s u .args .c))) (four u k) (s u .pre .0) (are u k)
 
-returns-2 : tie.Need-returns-2
-returns-2 c k = c .g-dct16-by .ensures k ∙ ap (denseC 16 dct16) (c .before .before .kept .ensures k)
-
-pub g-dct16-spec : {M : Type 1} → statement M
-g-dct16-spec =
+pub head16-spec : {M : Type 1} → statement M
+head16-spec =
     tie.close
-    (tie.spec upto-requires upto-requires-2 upto-requires-3 upto-requires-4 slice-aggregate-g-head g-head-requires kept-requires slice-aggregate-g-dct16-by g-dct16-by-requires returns returns-2)
+    (tie.spec
+    upto-requires
+    upto-requires-2
+    upto-requires-3
+    upto-requires-4
+    slice-aggregate-g-head
+    g-head-requires
+    returns)
