@@ -1,96 +1,59 @@
--- `passes::groups::group` meets its contract: the live numbers of four lines are gathered, put through the kernel, and put back. Assumes nothing.
-use mathlib.Core.Path.{_≡_, sym, ap, _∙_, subst}
+-- `passes::groups::group` meets its contract: where s is 1, the body is handed 1. Assumes nothing.
+use mathlib.Core.Path.{_≡_, sym, subst}
+use mathlib.Core.Bool.{true}
 use mathlib.Core.List.{List}
 use Prim.Native.Nat.{ℕ, _^_, _≤_, _<_}
-use native.Mathlib.Nat as N
-use native.Mathlib.Omega.{arith}
 use borrow.Author.Needs.{needs}
 use lib.IntN.{ℤ, pos, natAbs}
-use lib.ListN.{length, getD, take, length-take}
-use lib.Seq.{getD-take}
-use Rattle.whole.specs.Sums.{tab, Within}
-use Rattle.whole.specs.Lanes.{spot}
-use Rattle.whole.proofs.Sums.{within-all}
-use Rattle.whole.proofs.Fill.{tab-at}
-use Rattle.whole.proofs.Lanes.{col-length}
-use Rattle.whole.proofs.Groups.{group-within}
+use lib.ListN.{length, getD}
+use Rattle.whole.specs.Sums.{tab}
+use Rattle.whole.specs.Lanes.{spot, Places}
 use Rattle.tables.specs.Sizes.{cut}
-use Rattle.tables.specs.Dense.{firstOf, firstDense}
-use Rattle.tables.proofs.Kernels.{cut-most}
-use Rattle.tables.proofs.First.{first-within}
-use Rattle.lanes.specs.View.{lane, cols}
-use Rattle.passes.proofs.Living.{places-less, live-left}
+use Rattle.tables.specs.Kinds.{hasKind}
+use Rattle.tables.specs.Dense.{firstDense}
 use Rattle.passes.proofs.groups.group.Statement.{statement}
 use Rattle.passes.proofs.groups.group.Tie as tie
 
-short : (n : ℕ) {m : ℕ} → cut n ≡ m → m ≤ 32
-short n e = subst (λ (k : ℕ). k ≤ 32) e (cut-most n)
-
-gather-requires : tie.Need-gather-requires
-gather-requires c κs = let s = c .before in (omega (arith, short (s .args .n) (s .pre .0 .1), s .pre .0 .2), places-less (s .pre .0 .2) (s .pre .0 .3))
-
-module _ (c : tie.After-gather) where
-  abbrev s : tie.Start
-  s = c .before .before
-
-  abbrev m : ℕ
-  m = s .args .m
-
-  abbrev live : ℕ
-  live = s .args .live
+-- what is asked, and what is promised, where the numbers of a record are q apart
+module _ (s : tie.Start) where
+  abbrev sp : ℕ → ℕ → ℕ → ℕ
+  sp q = spot (s .args .base) (s .args .p) q
 
   abbrev t : List ℤ
   t = s .args .work .now
 
-  abbrev sp : ℕ → ℕ → ℕ
-  sp = spot (s .args .base) (s .args .p) (s .args .s)
+  abbrev Asks : ℕ → Type 0
+  Asks q =
+      ((hasKind (s .args .n) (s .args .code) ≡ true) × (cut (s .args .n) ≡ s .args .m) × (s .args .live ≤ s .args .m) × Places 4 (s .args .m) (sp q) (length t))
+      × ((k i : ℕ) → k < 4 → i < s .args .live → natAbs (getD t (sp q k i) (pos 0)) ≤ 2 ^ 19)
 
-  abbrev inputs : ℕ → List ℤ
-  inputs k = take m (cols k (c .gather .result))
+  abbrev Gives : List ℤ → ℕ → Type 0
+  Gives u q =
+      ((k i : ℕ) → k < 4 → i < s .args .m → getD u (sp q k i) (pos 0) ≡ getD (firstDense (s .args .n) (s .args .code) (s .args .live) (tab (s .args .m) (λ y. getD t (sp q k y) (pos 0)))) i (pos 0))
+      × ((z : ℕ) → ((k i : ℕ) → k < 4 → i < s .args .m → z ≡ sp q k i → ⊥) → getD u z (pos 0) ≡ getD t z (pos 0))
 
-  -- a live number that was gathered
-  front : (k i : ℕ) → i < live → getD (inputs k) i (pos 0) ≡ getD (take live (cols k (c .gather .result))) i (pos 0)
-  front k i h = getD-take m (cols k (c .gather .result)) i (pos 0) (N.lt-of-lt-of-le h (s .pre .0 .2)) ∙ sym (getD-take live (cols k (c .gather .result)) i (pos 0) h)
+through-requires : tie.Need-through-requires
+through-requires c κs = let s = c .before .before in subst (λ (q : ℕ). Asks s q) (c .before .if1 .taken) (s .pre)
 
-  small : (k : ℕ) → Within (2 ^ 19) (firstOf live (inputs k))
-  small k =
-      first-within live (inputs k) (2 ^ 19)
-      (λ i p q. subst (λ (z : ℤ). natAbs z ≤ 2 ^ 19) (sym (front k i p))
-      (within-all (2 ^ 19) (take live (cols k (c .gather .result))) (group-within t live 4 sp lane (c .gather .result) (c .gather .ensures) (2 ^ 19) (s .pre .1) k) i))
-
-  count : (k : ℕ) → length (inputs k) ≡ m
-  count k =
-      let e : length (c .gather .result) ≡ 32 = c .gather .ok .1 .0 .1 in
-      length-take m (cols k (c .gather .result)) ∙ N.min-eq-left (subst (λ (n : ℕ). m ≤ n) (sym (col-length lane k (c .gather .result) ∙ e)) (short (s .args .n) (s .pre .0 .1)))
-
-  is : (k i : ℕ) → k < 4 → i < live → getD (inputs k) i (pos 0) ≡ getD t (sp k i) (pos 0)
-  is k i a h =
-      front k i h ∙ ap (λ l. getD l i (pos 0)) (c .gather .ensures k) ∙ tab-at (pos 0) live (λ i. getD (tab 4 (λ l. getD t (sp l i) (pos 0))) k (pos 0)) i h
-      ∙ tab-at (pos 0) 4 (λ l. getD t (sp l i) (pos 0)) k a
-
-lane-tx1d-requires : tie.Need-lane-tx1d-requires
-lane-tx1d-requires c κs =
-    let e = sym (s c .pre .0 .1) in
-    (s c .pre .0 .0, (subst (λ (j : ℕ). live c ≤ j) e (s c .pre .0 .2), λ k. subst (λ (j : ℕ). Within (2 ^ 19) (firstOf (live c) (take j (cols k (c .gather .result))))) e (small c k)))
-
-scatter-requires : tie.Need-scatter-requires
-scatter-requires c κs = let s = c .before .before .before .before in (short (s .args .n) (s .pre .0 .1), s .pre .0 .3)
+through-requires-2 : tie.Need-through-requires-2
+through-requires-2 c κs = search needs
 
 same-length : tie.Need-same-length
 same-length c = search needs
 
 returns : tie.Need-returns
 returns c =
-    let u = c .before in
-    let r = u .before .before in
-    let g = r .before in
-    let rs = r .lane-tx1d .result in (
-      λ k i a h. u .scatter .ensures .0 k i a h ∙ sym (getD-take (m g) (cols k rs) i (pos 0) h)
-          ∙ ap (λ l. getD l i (pos 0))
-          (subst (λ (j : ℕ). take j (cols k rs) ≡ firstDense (s g .args .n) (s g .args .code) (live g) (take j (cols k (g .gather .result)))) (s g .pre .0 .1) (r .lane-tx1d .ensures k)
-          ∙ live-left (s g .args .n) (live g) (m g) (λ y. getD (t g) (sp g k y) (pos 0)) (inputs g k) (s g .pre .0 .1) (s g .pre .0 .2) (count g k) (λ y q. is g k y a q) (s g .args .code)),
-      u .scatter .ensures .1,
-    )
+    let r = c .before in
+    let s = r .before .before .before in
+    subst (λ (q : ℕ). Gives s (r .through .last .0) q) (sym (r .before .before .if1 .taken)) (r .through .ensures)
+
+same-length-2 : tie.Need-same-length-2
+same-length-2 c = search needs
+
+returns-2 : tie.Need-returns-2
+returns-2 c = search needs
 
 pub group-spec : {M : Type 1} → statement M
-group-spec = tie.close (tie.spec gather-requires lane-tx1d-requires scatter-requires same-length returns)
+group-spec =
+    tie.close
+    (tie.spec through-requires through-requires-2 same-length returns same-length-2 returns-2)
