@@ -1,7 +1,8 @@
-/* driver FORM TX TXTP W H SPARSE ROUNDS: runs one form of a pixel call on a block that depends on nothing else, and writes the
-   nanoseconds of the quickest of ROUNDS rounds (a line), then the pixels' bytes. FORM: 0 the Rust's add, 1 one lane, 2 four
-   lanes; 3 to 5 the same for the float call. With 0 rounds the call is made once. No C library: memcpy and memset are the ones
-   below, for both sides. Everything but those, the Rust and the archive is in section .driver, which is not counted. */
+/* driver FORM TX TXTP W H LIVE DEPTH ROUNDS: runs one form of a pixel call on a block that depends on nothing else, and writes
+   the nanoseconds of the quickest of ROUNDS rounds (a line), then the pixels' bytes. FORM: 0 the Rust's add, 1 one lane, 2 four
+   lanes; 3 to 5 the same for the float call. LIVE: 0 every coefficient, 1 the first four of the first row and of the first
+   column, 2 those of the first four rows and columns. With 0 rounds the call is made once. No C library: memcpy and memset are
+   the ones below, for both sides. Everything but those, the Rust and the archive is in section .driver, which is not counted. */
 #include "panel.h"
 #define DRIVER __attribute__((section(".driver")))
 
@@ -59,14 +60,14 @@ DRIVER static long nanoseconds(void) {
 }
 
 /* One call; what it runs outside this section is counted. */
-DRIVER static uint32_t one(size_t form, size_t txtp, size_t tx, size_t n, size_t cells) {
+DRIVER static uint32_t one(size_t form, size_t txtp, size_t tx, size_t n, size_t cells, uint32_t bd) {
     switch (form) {
-    case 0: rust_add(plane, 4096, 64, coeff, n, txtp, tx, 8); return 0;
-    case 1: return panel_inv_txfm_add(plane, 4096, 64, coeff, n, txtp, tx, 8).number;
-    case 2: return panel_inv_txfm_add_lanes(plane, 4096, 64, coeff, n, txtp, tx, 8).number;
-    case 3: rust_float(out, cells, coeff, n, txtp, tx, 8, pred, cells); return 0;
-    case 4: return panel_inv_txfm_recon_f32(out, cells, coeff, n, txtp, tx, 8, pred, cells).number;
-    default: return panel_inv_txfm_recon_f32_lanes(out, cells, coeff, n, txtp, tx, 8, pred, cells).number;
+    case 0: rust_add(plane, 4096, 64, coeff, n, txtp, tx, bd); return 0;
+    case 1: return panel_inv_txfm_add(plane, 4096, 64, coeff, n, txtp, tx, bd).number;
+    case 2: return panel_inv_txfm_add_lanes(plane, 4096, 64, coeff, n, txtp, tx, bd).number;
+    case 3: rust_float(out, cells, coeff, n, txtp, tx, bd, pred, cells); return 0;
+    case 4: return panel_inv_txfm_recon_f32(out, cells, coeff, n, txtp, tx, bd, pred, cells).number;
+    default: return panel_inv_txfm_recon_f32_lanes(out, cells, coeff, n, txtp, tx, bd, pred, cells).number;
     }
 }
 
@@ -80,23 +81,23 @@ DRIVER static void line(long v) {
 
 DRIVER void begin(long *stack) {
     char **argv = (char **)(stack + 1);
-    if (stack[0] != 8) finish(2);
+    if (stack[0] != 9) finish(2);
     size_t form = number(argv[1]), tx = number(argv[2]), txtp = number(argv[3]), w = number(argv[4]), h = number(argv[5]);
-    size_t sparse = number(argv[6]), rounds = number(argv[7]);
+    size_t live = number(argv[6]), depth = number(argv[7]), rounds = number(argv[8]);
     size_t sw = w < 32 ? w : 32, sh = h < 32 ? h : 32, n = sw * sh;
     uint32_t seed = 1;
     for (size_t i = 0; i < n; i++) {
         size_t r = i % sh, x = i / sh;
         seed = seed * 1103515245 + 12345;
         int32_t v = (int32_t)((seed >> 16) % 2001) - 1000;
-        coeff[i] = !sparse || (r == 0 && x < 4) || (x == 0 && r < 4) ? v : 0;
+        coeff[i] = !live || (r < 4 && x < 4 && (live == 2 || !r || !x)) ? v : 0;
     }
-    for (size_t i = 0; i < 4096; i++) plane[i] = pred[i] = i & 255;
+    for (size_t i = 0; i < 4096; i++) plane[i] = pred[i] = i & ((1 << depth) - 1);
     long best = 0;
-    if (!rounds && one(form, txtp, tx, n, w * h)) finish(3);
+    if (!rounds && one(form, txtp, tx, n, w * h, (uint32_t)depth)) finish(3);
     for (size_t k = 0; k < rounds; k++) {
         long start = nanoseconds();
-        for (int i = 0; i < 100; i++) one(form, txtp, tx, n, w * h);
+        for (int i = 0; i < 100; i++) one(form, txtp, tx, n, w * h, (uint32_t)depth);
         long took = nanoseconds() - start;
         if (!k || took < best) best = took;
     }
