@@ -1,5 +1,5 @@
 #!/usr/bin/env python3
-"""Usage: glass_model.py < SCRIPT > ANSWER: answer a script of docs/GLASS.md, by model.py for the calls."""
+"""Usage: glass_model.py < SCRIPT > ANSWER: answer a script of docs/GLASS.md, by model.py and history_model.py for the calls."""
 
 import collections
 import re
@@ -7,12 +7,13 @@ import sys
 
 sys.dont_write_bytecode = True
 
+import history_model
+import lossless_model
 import model
 from stream import Answer, Case
 
 TOO_LONG = 262_144
 MOST_NUMBERS = 1028
-MOST_STEPS = 4096
 LARGEST = 2**31 - 1
 
 REFUSALS = {
@@ -25,6 +26,9 @@ REFUSALS = {
     7: "coefficient or level",
     8: "sample",
     10: "sample after the step",
+    12: "history",
+    13: "step to take out",
+    14: "room for a step",
 }
 SLICES = {
     1: "coefficients or levels",
@@ -41,17 +45,20 @@ FORMS = {
     "screen": Form(range(3, 5), 4, "WIDTH HEIGHT DEPTH and a pad or nothing"),
     "block": Form(range(4, MOST_NUMBERS + 1), 4, "ROW COLUMN SIZE TYPE and coefficients"),
     "change": Form(range(18, 19), 2, "ROW COLUMN and 16 samples"),
+    "withdraw": Form(range(1, 2), 1, "a NUMBER"),
+    "fold": Form(range(1), 0, "nothing"),
     "undo": Form(range(2), 1, "a count or nothing"),
-    "show": Form(range(1), 0, "nothing"),
     "keep": Form(range(1), 0, "nothing"),
+    "show": Form(range(1), 0, "nothing"),
     "compare": Form(range(1), 0, "nothing"),
     "pad": Form(range(1), 0, "nothing"),
+    "free": Form(range(1, 2), 1, "a NUMBER"),
+    "who": Form(range(2, 3), 2, "ROW COLUMN"),
+    "steps": Form(range(1), 0, "nothing"),
 }
 
 WORD = re.compile(rb"[^ \t\r]+")
 NUMBER = re.compile(rb"(-?)0*([0-9]{1,10})")
-
-Step = collections.namedtuple("Step", "row column levels")
 
 # The answer to a block or change that leaves the screen: it isn't given the samples that it needs.
 NO_SAMPLES = Answer(6, 2)
@@ -92,7 +99,7 @@ def refused(answer):
 
 
 class Glass:
-    """A screen with its steps. Each command gives its lines; outcome answers the calls, as model.outcome does."""
+    """A screen with its remaining steps. Each command gives its lines; outcome answers the calls, as model.outcome does."""
 
     def __init__(self, outcome=model.outcome):
         self.outcome = outcome
@@ -112,7 +119,7 @@ class Glass:
         self.plane = [2 ** (depth - 1)] * (self.stride * height)
         for at in self.pads():
             self.plane[at] = at % 256
-        self.steps = []
+        self.remaining = []
         self.kept = None
         return [f"screen of {width} by {height}, depth {depth}" + (f", pad {pad}" if pad else "")]
 
@@ -138,13 +145,21 @@ class Glass:
             answer = NO_SAMPLES
         if answer == model.DONE:
             self.plane[start:] = after.slices[1]
-            self.steps = []
+            self.remaining = []
         return [f"block at row {row}, column {column}: {'done' if answer == model.DONE else refused(answer)}"]
 
-    def step(self, call, step):
-        arguments = [self.depth, self.stride, self.width, step.row, step.column]
-        answer, after = self.outcome(Case(call, arguments, [step.levels, self.plane]))
-        self.plane = after.slices[1]
+    # The calls of the history, on a list of steps that is in range.
+
+    def ended(self, answer):
+        return f"done, steps {len(self.remaining)}" if answer == model.DONE else refused(answer)
+
+    def move(self, entry, sign):
+        """The plane with a step taken, or taken back; refusals 8 and 10 where a sample is out of range."""
+        refusals = lossless_model.sample_refusals(entry.depth, self.plane, self.stride, 4, 4, entry.row * self.stride + entry.column)
+        answer = next(refusals, model.DONE)
+        if answer == model.DONE:
+            moved = lossless_model.moved_refusals(entry.depth, self.stride, entry.row, entry.column, entry.levels, self.plane, sign)
+            answer = next(moved, model.DONE)
         return answer
 
     def change(self, row, column, *samples):
@@ -152,31 +167,80 @@ class Glass:
         for place, sample in enumerate(samples, 3):
             if not 0 <= sample <= top:
                 raise Bad(f"number {place} is outside 0 to {top}")
-        if len(self.steps) == MOST_STEPS:
-            raise Bad("no room for another step")
-        answer = NO_SAMPLES
-        if self.inside(row, column, 4, 4):
-            present = [self.plane[at] for at in model.places(self.stride, row, column)]
-            difference = [s - p for s, p in zip(samples, present)]
-            step = Step(row, column, self.outcome(Case(6, [], [difference, [0] * 16]))[1].slices[1])
-            answer = self.step(8, step)
+        return [f"change at row {row}, column {column}: {self.ended(self.step(row, column, samples))}"]
+
+    def step(self, row, column, samples):
+        if not self.inside(row, column, 4, 4):
+            return NO_SAMPLES
+        present = [self.plane[at] for at in model.places(self.stride, row, column)]
+        difference = [s - p for s, p in zip(samples, present)]
+        levels = self.outcome(Case(6, [], [difference, [0] * 16]))[1].slices[1]
+        number = self.remaining[-1].number + 1 if self.remaining else 1
+        entry = history_model.Entry(number, self.depth, row, column, levels)
+        answer = self.move(entry, 1)
+        if answer == model.DONE and len(self.remaining) == history_model.MOST:
+            answer = Answer(14)
         if answer == model.DONE:
-            self.steps.append(step)
-        told = f"done, steps {len(self.steps)}" if answer == model.DONE else refused(answer)
-        return [f"change at row {row}, column {column}: {told}"]
+            history_model.move(self.plane, self.stride, entry, 1)
+            self.remaining.append(entry)
+        return answer
+
+    def can_withdraw(self, number):
+        at = history_model.place_of(self.remaining, number)
+        if at is None:
+            return Answer(13, place=number)
+        answer = self.move(self.remaining[at], -1)
+        if answer == model.DONE and any(history_model.share(self.remaining[at], e) for e in self.remaining[at + 1 :]):
+            answer = Answer(13, place=number)
+        return answer
+
+    def take_out(self, at):
+        gone = self.remaining.pop(at)
+        history_model.move(self.plane, self.stride, gone, -1)
+        return gone
+
+    def withdraw(self, number):
+        answer = self.can_withdraw(number)
+        if answer == model.DONE:
+            self.take_out(history_model.place_of(self.remaining, number))
+        return [f"withdraw {number}: {self.ended(answer)}"]
+
+    def free(self, number):
+        answer = self.can_withdraw(number)
+        return [f"free {number}: {'yes' if answer == model.DONE else refused(answer)}"]
+
+    def fold(self):
+        folded = history_model.folded(self.remaining)
+        if folded is None:
+            raise AssertionError("a fold of steps that were taken is never refused")
+        self.remaining = folded
+        return [f"fold: {self.ended(model.DONE)}"]
+
+    def who(self, row, column):
+        if row >= self.height:
+            raise Bad("no such row")
+        if column >= self.width:
+            raise Bad("no such column")
+        cell = row // 4 * history_model.cells_across(self.width) + column // 4
+        number = history_model.latest(self.width, self.remaining, cell)
+        return [f"who at row {row}, column {column}: {f'step {number}' if number else 'none'}"]
+
+    def steps(self):
+        listed = [f"step {entry.number} at row {entry.row}, column {entry.column}" for entry in self.remaining]
+        return [f"steps {len(listed)}", *listed]
 
     def undo(self, count=1):
-        if count > len(self.steps):
-            raise Bad(f"no more than {len(self.steps)} steps")
+        if count > len(self.remaining):
+            raise Bad(f"no more than {len(self.remaining)} steps")
         if count == 0:
-            return [f"undo of nothing, steps {len(self.steps)}"]
+            return [f"undo of nothing, steps {len(self.remaining)}"]
         return [self.undo_newest() for _ in range(count)]
 
     def undo_newest(self):
-        step = self.steps.pop()
-        if self.step(9, step) != model.DONE:
+        if self.move(self.remaining[-1], -1) != model.DONE:
             raise AssertionError("an undo of the newest step is never refused")
-        return f"undo at row {step.row}, column {step.column}: done, steps {len(self.steps)}"
+        gone = self.take_out(-1)
+        return f"undo at row {gone.row}, column {gone.column}: {self.ended(model.DONE)}"
 
     def show(self):
         return ["show" + self.picture()]

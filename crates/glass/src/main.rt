@@ -1,12 +1,10 @@
 // Reads a script on standard input (docs/GLASS.md), plays it, and writes what happens and the pictures on standard output.
 // The files stdin and stdout hold a script and what it gives; tools/record-glass writes both.
-//     picture     a plane as PGM
-//     say         the line of an event
-//     commands    what each command does
+//     commands    the commands that change the screen
+//     look        those that only look at it
 //     script      lines into commands
 mod commands;
-mod picture;
-mod say;
+mod look;
 mod script;
 
 fn main() {
@@ -14,6 +12,16 @@ fn main() {
     let mut list = [0i32; 1028];
     let mut room = [0i32; 81920];
     let mut kept = [0i32; 81920];
-    let mut past = [0i32; 73728];
-    script::play(&mut text, &mut list, &mut room, &mut kept, &mut past);
+    let mut steps = [0u32; 16385];
+    let mut levels = [0i32; 65536];
+    let mut index = [0u32; 4096];
+    script::play(
+        &mut text,
+        &mut list,
+        &mut room,
+        &mut kept,
+        &mut steps,
+        &mut levels,
+        &mut index,
+    );
 }

@@ -54,13 +54,13 @@ block-fits width height row column w h c r =
     let t : height * width ≡ width * height = N.mul-comm height width in
     omega arith
 
-pub possible-is : (w h d : ℕ) → possibleOf w h d ≡ true → (4 ≤ w) × (w ≤ 256) × (h ≤ 256) × (8 ≤ d) × (d ≤ 12)
+pub possible-is : (w h d : ℕ) → possibleOf w h d ≡ true → (4 ≤ w) × (w ≤ 256) × (h ≤ 256) × (8 ≤ d) × (d ≤ 12) × (4 ≤ h)
 possible-is w h d e =
     let p = both (leb 4 w && leb w 256) ((leb 4 h && leb h 256) && (leb 8 d && leb d 12)) e in
     let q = both (leb 4 h && leb h 256) (leb 8 d && leb d 12) (p .1) in
     let r = both (leb 8 d) (leb d 12) (q .1) in
     let s = both (leb 4 w) (leb w 256) (p .0) in
-    (leb-true 4 w (s .0), leb-true w 256 (s .1), leb-true h 256 (both (leb 4 h) (leb h 256) (q .0) .1), leb-true 8 d (r .0), leb-true d 12 (r .1))
+    (leb-true 4 w (s .0), leb-true w 256 (s .1), leb-true h 256 (both (leb 4 h) (leb h 256) (q .0) .1), leb-true 8 d (r .0), leb-true d 12 (r .1), leb-true 4 h (both (leb 4 h) (leb h 256) (q .0) .0))
 
 -- the samples of a screen fit their room
 pub few-samples : {w h n : ℕ} → w ≤ 320 → h ≤ 256 → 81920 ≤ n → w * h ≤ n

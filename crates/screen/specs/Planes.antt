@@ -1,12 +1,11 @@
 -- The samples of a screen: lines of stride, one after another, of which the first width are visible and the others are the pad. Definitions only;
 -- the pad is that of document 02, section 2.
---     natural z                          z, or 0 where it is negative
+--     natural z, argument list k         z, or 0 where it is negative; the same of number k of a command's line
 --     standsOf, blockStands              whether a block of w by h, or of a size number, stands on a screen
 --     mark, freshOf                      the mark that sample i of the pad has at the start; the sample i of a new plane whose visible ones are z
 --     marked                             a plane with the marks of the start in its pad
 --     blockOf                            an AV2 block added at a row and column: the answer, and the plane as it is left.
 --                                        A block that leaves the screen is answered as on a plane of no sample
---     onRoom n room r                    a call on the first n samples of a room: its answer, and the room as it is left
 --     drawnOf                            a block on a screen: row, column, size, type and coefficients from a list of numbers
 --     Differ r a b                       a and b first differ at r, or are the same list and r is its length
 use mathlib.Core.Path.{_≡_}
@@ -25,6 +24,9 @@ use Rattle.pixels.specs.Calls.{strict, addOf}
 abbrev pub natural : ℤ → ℕ
 natural (pos n) = n
 natural (negsuc n) = 0
+
+abbrev pub argument : List ℤ → ℕ → ℕ
+argument list k = natural (numbers list k)
 
 abbrev pub standsOf : ℕ → ℕ → ℕ → ℕ → ℕ → ℕ → Bool
 standsOf width height row column w h = leb (column + w) width && leb (row + h) height
@@ -52,14 +54,9 @@ blockOf p stride width height row column cs txtp tx depth =
     (fromOn (row * stride + column) p (addOf strict (drop (row * stride + column) p) stride cs txtp tx depth))
     (addOf strict [] stride cs txtp tx depth .0, p)
 
--- a call on the first n samples of a room
-abbrev pub onRoom : ℕ → List ℤ → Answer × List ℤ → Answer × List ℤ
-onRoom n room r = (r .0, r .1 ++ drop n room)
-
 abbrev pub drawnOf : ℕ → ℕ → ℕ → ℕ → List ℤ → List ℤ → Answer × List ℤ
-drawnOf stride width height depth list room =
-    onRoom (stride * height) room
-    (blockOf (take (stride * height) room) stride width height (natural (numbers list 0)) (natural (numbers list 1)) (drop 4 list) (natural (numbers list 3)) (natural (numbers list 2)) depth)
+drawnOf stride width height depth list p =
+    blockOf p stride width height (argument list 0) (argument list 1) (drop 4 list) (argument list 3) (argument list 2) depth
 
 pub record Differ (r : ℕ) (a b : List ℤ) : Type 0 where
   pub before : (k : ℕ) → k < r → getD a k (pos 0) ≡ getD b k (pos 0)

@@ -1,8 +1,8 @@
-// A screen: its plane, blocks and changes on it, and the steps that can be taken back. What may be said of it stands in specs/.
+// A screen: its plane, blocks on it, and the levels of a change. What may be said of it stands in specs/.
 //     plane       the samples: a new plane, blocks, the first difference, the first mark that isn't as it was
-//     steps       changes into wanted blocks, and the steps that are remembered
+//     steps       the levels that lead to a wanted block
 ghost use mathlib.Core.Path.{_≡_};
-ghost use Prim.Native.Nat.{_-_, _^_, _≤_};
+ghost use Prim.Native.Nat.{_+_, _-_, _^_, _≤_};
 ghost use lib.IntN.{pos};
 ghost use lib.ListN.{length};
 ghost use Rattle.screen.specs.Screens.{Sound, Blank, possibleOf};
@@ -17,21 +17,19 @@ pub struct Screen {
     pub width: usize,
     pub height: usize,
     pub depth: u32,
-    pub steps: usize, // The steps that can be taken back.
     pub kept: bool, // Whether there is a kept copy.
 }
 
-// A screen with other steps.
-pub fn with_steps(s: Screen, steps: usize) -> Screen
-    ensures { λ r. ⌜ (r .width ≡ s .width) × (r .height ≡ s .height) × (r .depth ≡ s .depth) × (r .steps ≡ steps) × (r .stride ≡ s .stride) ⌝ }
+// The same screen, of which a copy is kept.
+pub fn with_copy(s: Screen) -> Screen
+    ensures { λ r. ⌜ (r .stride ≡ s .stride) × (r .width ≡ s .width) × (r .height ≡ s .height) × (r .depth ≡ s .depth) ⌝ }
 {
     Screen {
         stride: s.stride,
         width: s.width,
         height: s.height,
         depth: s.depth,
-        steps,
-        kept: s.kept,
+        kept: true,
     }
 }
 
@@ -59,7 +57,7 @@ fn grey(depth: usize) -> i32
 // A new screen, all of the middle grey, with its marks in the pad.
 pub fn new_screen(width: usize, height: usize, depth: usize, pad: usize, room: &mut [i32]) -> Screen
     requires { ⌜ (4 ≤ width) × (width ≤ 256) × (height ≤ 256) × (8 ≤ depth) × (depth ≤ 12) × (pad ≤ 64) × (81920 ≤ length (now room)) ⌝ }
-    ensures { λ r. ⌜ Sound r × (r .steps ≡ 0) ⌝ }
+    ensures { λ r. ⌜ Sound r × (r .stride ≡ width + pad) × (r .width ≡ width) × (r .height ≡ height) × (r .depth ≡ depth) ⌝ }
     ensures { λ r. ⌜ Blank r (now (room .exit)) ⌝ }
 {
     let stride = width + pad;
@@ -70,7 +68,6 @@ pub fn new_screen(width: usize, height: usize, depth: usize, pad: usize, room: &
         width,
         height,
         depth: depth as u32,
-        steps: 0,
         kept: false,
     }
 }

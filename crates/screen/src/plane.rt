@@ -140,18 +140,17 @@ pub fn draw(
     height: usize,
     depth: u32,
     list: &[i32],
-    room: &mut [i32],
+    plane: &mut [i32],
 ) -> Answer
-    requires { ⌜ (stride ≤ 320) × (height ≤ 256) × (4 ≤ length (now list)) × (81920 ≤ length (now room)) × (width ≤ stride) ⌝ }
-    ensures { λ r. ⌜ (r, now (room .exit)) ≡ drawnOf stride width height depth (now (list .entry)) (now (room .entry)) ⌝ }
+    requires { ⌜ (length (now plane) ≡ stride * height) × (width ≤ stride) × (4 ≤ length (now list)) ⌝ }
+    ensures { λ r. ⌜ (r, now (plane .exit)) ≡ drawnOf stride width height depth (now (list .entry)) (now (plane .entry)) ⌝ }
 {
-    let n = stride * height;
     let row = natural(list[0]);
     let column = natural(list[1]);
     let tx = natural(list[2]);
     let txtp = natural(list[3]);
     add(
-        &mut room[..n],
+        plane,
         stride,
         width,
         height,

@@ -3,7 +3,6 @@ use mathlib.Core.Path.{refl, sym, ap, _∙_}
 use Prim.Native.Nat.{_+_, _*_, _≤_}
 use native.Mathlib.Omega.{arith}
 use borrow.Author.Needs.{needs}
-use lib.Dec.{lit≤}
 use lib.ListN.{length}
 use lib.Seq.{length-take-le}
 use mir.Syntax.{w32}
@@ -55,7 +54,7 @@ returns c =
     let q = s .args in
     let t = q .width + q .pad in
     let fit = length-take-le (t * q .height) (q .room .now) (few s) in (
-      (record { wide = omega arith; long = long s; high = s .pre .2; deep = s .pre .4; few = lit≤ tt }, refl),
+      (record { wide = omega arith; narrow = s .pre .1; long = long s; high = s .pre .2; deep = s .pre .4 }, refl, refl, refl, refl),
       front-back (t * q .height) (q .room .now) (b .blank .last .0) (b .blank .kept .0 ∙ fit)
           ∙ b .blank .ensures
           ∙ ap (λ n. tab n (freshOf t (q .width) (toZ w32 (ofZ w32 (g .grey .result))))) fit

@@ -1,10 +1,10 @@
--- `commands::begin` meets its contract: a new screen has no steps. Assumes nothing.
-use mathlib.Core.Path.{sym, _∙_}
-use Prim.Native.Nat.{_*_}
+-- `commands::begin` meets its contract: the numbers of the line are those of the new screen. Assumes nothing.
+use mathlib.Core.Path.{_∙_}
+use native.Mathlib.Omega.{arith}
 use borrow.Author.Needs.{needs}
-use borrow.Author.Tests.{not-false}
-use Rattle.screen.proofs.Planes.{possible-is}
-use Rattle.screen.proofs.Stepping.{none-held}
+use Rattle.lossless.specs.Gains.{numbers}
+use Rattle.screen.specs.Screens.{possibleOf}
+use Rattle.screen.proofs.Planes.{natural-read}
 use Rattle.glass.proofs.commands.begin.Statement.{statement}
 use Rattle.glass.proofs.commands.begin.Tie as tie
 
@@ -26,50 +26,42 @@ shared-slice-copy-out-natural-3 c = search needs
 natural-requires-3 : tie.Need-natural-requires-3
 natural-requires-3 c κs = search needs
 
-possible-requires : tie.Need-possible-requires
-possible-requires c κs = search needs
+shared-slice-copy-out-natural-4 : tie.Need-shared-slice-copy-out-natural-4
+shared-slice-copy-out-natural-4 c = search needs
 
-slice-aggregate-error : tie.Need-slice-aggregate-error
-slice-aggregate-error c = search needs
-
-error-requires : tie.Need-error-requires
-error-requires c κs = search needs
-
-returns : tie.Need-returns
-returns c = search needs
-
-pad-of-requires : tie.Need-pad-of-requires
-pad-of-requires c κs = search needs
-
-slice-aggregate-error-2 : tie.Need-slice-aggregate-error-2
-slice-aggregate-error-2 c = search needs
-
-error-requires-2 : tie.Need-error-requires-2
-error-requires-2 c κs = search needs
-
-returns-2 : tie.Need-returns-2
-returns-2 c = search needs
+natural-requires-4 : tie.Need-natural-requires-4
+natural-requires-4 c κs = search needs
 
 say-screen-requires : tie.Need-say-screen-requires
 say-screen-requires c κs = search needs
 
-new-screen-requires : tie.Need-new-screen-requires
-new-screen-requires c κs =
-    let e = c .before .before .before .before in
-    let d = e .before .before in
-    let h = d .before .before in
-    let w = h .before .before in
-    let p = possible-is (w .natural .result) (h .natural2 .result) (d .natural3 .result) (sym (e .before .possible .ensures) ∙ not-false _ (e .if1 .left)) in
-    (p .0, p .1, p .2, p .3, p .4, c .before .before .if2 .left, w .before .before .pre .2)
+begin-requires : tie.Need-begin-requires
+begin-requires c κs =
+    let s = c .before .before .before .before .before .before .before .before .before .before .before .before .before .before in
+    let l = s .args .list .now in
+    let w = c .before .before .before .before .before .before .before .before .before .before in
+    let h = c .before .before .before .before .before .before .before .before in
+    let d = c .before .before .before .before .before .before in
+    let p = c .before .before .before .before in
+    let pad-is = (p .natural4 .ensures ∙ natural-read (numbers l 3) (record { sfits = p .before .natural-arg4 .given })) in (
+      (λ i. possibleOf ((w .natural .ensures ∙ natural-read (numbers l 0) (record { sfits = w .before .natural-arg .given })) i) ((h .natural2 .ensures ∙ natural-read (numbers l 1) (record { sfits = h .before .natural-arg2 .given })) i) ((d .natural3 .ensures ∙ natural-read (numbers l 2) (record { sfits = d .before .natural-arg3 .given })) i)) ∙ s .pre .0 .0,
+      omega (arith, pad-is, s .pre .0 .1),
+      s .pre .1 .0,
+      s .pre .1 .1,
+      s .pre .1 .2,
+    )
 
 same-length : tie.Need-same-length
 same-length c = search needs
 
-returns-3 : tie.Need-returns-3
-returns-3 c =
-    let f = c .before .new-screen in
-    let q = f .result in
-    (f .ensures .0 .0, λ past x. none-held (q .stride * q .height) (q .depth) (q .stride) (q .width) (q .steps) (f .last .1 .1 .1 .1 .0) past (f .ensures .0 .1))
+same-length-2 : tie.Need-same-length-2
+same-length-2 c = search needs
+
+same-length-3 : tie.Need-same-length-3
+same-length-3 c = search needs
+
+returns : tie.Need-returns
+returns c = search needs
 
 pub begin-spec : {M : Type 1} → statement M
 begin-spec =
@@ -81,15 +73,11 @@ begin-spec =
     natural-requires-2
     shared-slice-copy-out-natural-3
     natural-requires-3
-    possible-requires
-    slice-aggregate-error
-    error-requires
-    returns
-    pad-of-requires
-    slice-aggregate-error-2
-    error-requires-2
-    returns-2
+    shared-slice-copy-out-natural-4
+    natural-requires-4
     say-screen-requires
-    new-screen-requires
+    begin-requires
     same-length
-    returns-3)
+    same-length-2
+    same-length-3
+    returns)

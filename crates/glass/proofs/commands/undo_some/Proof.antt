@@ -1,56 +1,96 @@
--- `commands::undo_some` meets its contract: at each turn the steps that are left can be taken back. Assumes nothing.
-use mathlib.Core.Path.{_≡_, refl, _∙_}
-use Prim.Native.Nat.{_*_, _≤_}
+-- `commands::undo_some` meets its contract: after i turns the i newest steps are taken back. Assumes nothing.
+use mathlib.Core.Path.{_≡_, refl, sym, ap, _∙_, subst}
+use Prim.Native.Nat.{ℕ, _-_, _≤_, _<_}
 use native.Mathlib.Omega.{arith}
 use borrow.Author.Needs.{needs}
 use lib.ListN.{length}
-use Rattle.screen.specs.Screens.{Back}
-use Rattle.screen.proofs.Stepping.{sound-steps, held-steps}
+use Rattle.answers.specs.Answers.{done}
+use Rattle.keeping.specs.Range.{area}
+use Rattle.history.specs.Calls.{lent, undoOf}
+use Rattle.past.specs.Commands.{undone, Past}
+use Rattle.past.proofs.Pasts.{past-good, Undoing, undoing-start, undoing-more}
 use Rattle.glass.proofs.commands.undo_some.Statement.{statement}
 use Rattle.glass.proofs.commands.undo_some.Tie as tie
 
 abbrev Inv-loop : tie.InvT-loop
-Inv-loop line s count room₀ past k₀ left₀ room k left = (left ≤ k) × (k ≤ 4096) × (length room ≡ length room₀) × Back (s .stride * s .height) (s .depth) (s .stride) (s .width) k room past
+Inv-loop line stride width height k plane₀ steps₀ levels₀ index₀ i₀ plane steps levels index i =
+    (i ≤ k) × Undoing (area (length plane₀) stride width height) (lent plane₀ steps₀ levels₀ index₀) i (lent plane steps levels index)
+    × (length plane ≡ length plane₀) × (length steps ≡ length steps₀) × (length levels ≡ length levels₀) × (length index ≡ length index₀)
 
 abbrev μ-loop : tie.MeasureT-loop
-μ-loop line s count room₀ past k₀ left₀ room k left = left
+μ-loop line stride width height k plane₀ steps₀ levels₀ index₀ i₀ plane steps levels index i = k - i
+
+few : (s : tie.Start Inv-loop μ-loop) → 0 < length (s .args .steps .now)
+few s = let q = s .args in omega (arith, past-good (area (length (q .plane .now)) (q .stride) (q .width) (q .height)) (lent (q .plane .now) (q .steps .now) (q .levels .now) (q .index .now)) (s .pre .0) .keeping .steps)
+
+word-requires : tie.Need-word-requires Inv-loop μ-loop
+word-requires c κs = omega (arith, few (c .before .before .before))
+
+say-nothing-requires : tie.Need-say-nothing-requires Inv-loop μ-loop
+say-nothing-requires c κs = search needs
 
 loop-holds : tie.Need-loop-holds Inv-loop μ-loop
-loop-holds c = let s = c in (s .pre .0 .1, s .pre .0 .0 .few, refl, s .pre .1 .1)
+loop-holds c = let s = c .before .before .before .before .before in let q = s .args in (omega arith, undoing-start (area (length (q .plane .now)) (q .stride) (q .width) (q .height)) (lent (q .plane .now) (q .steps .now) (q .levels .now) (q .index .now)) (s .pre .0), refl, refl, refl, refl)
 
-undo-one-requires : tie.Need-undo-one-requires Inv-loop μ-loop
-undo-one-requires c κs =
+say-undo-requires : tie.Need-say-undo-requires Inv-loop μ-loop
+say-undo-requires c κs =
+    let s = c .before .before .before .before .before .before .before .before in
+    let q = s .args in
     let l = c .before .before in
-    let s = l .before in
-    let z = s .pre .0 .0 in
-    ((z .long, z .high, omega (arith, c .before .loop-test .taken, l .loop .inv .0), l .loop .inv .1), ((omega (arith, l .loop .inv .2, s .pre .1 .0 .0), s .pre .1 .0 .1), l .loop .inv .3))
+    let i = l .loop .inv in
+    let k = past-good (area (length (q .plane .now)) (q .stride) (q .width) (q .height)) (lent (l .loop .plane) (l .loop .steps) (l .loop .levels) (l .loop .index)) (i .1 .past) .keeping in
+    (k .steps, omega (arith, i .1 .left, s .pre .1, c .before .loop-test .taken), k .most)
 
-sub-k : tie.Need-sub-k Inv-loop μ-loop
-sub-k c = search needs
+undo-requires : tie.Need-undo-requires Inv-loop μ-loop
+undo-requires c κs =
+    let s = c .before .before .before .before .before .before .before .before .before .before .before .before .before in
+    let q = s .args in
+    let l = c .before .before .before .before .before .before .before in
+    let i = l .loop .inv in
+    (subst (λ (n : ℕ). Past (area n (q .stride) (q .width) (q .height)) (lent (l .loop .plane) (l .loop .steps) (l .loop .levels) (l .loop .index))) (sym (i .2)) (i .1 .past), omega (arith, i .1 .left, s .pre .1, c .before .before .before .before .before .before .loop-test .taken))
 
-sub-left : tie.Need-sub-left Inv-loop μ-loop
-sub-left c = search needs
+add-i : tie.Need-add-i Inv-loop μ-loop
+add-i c = search needs
 
 loop-less : tie.Need-loop-less Inv-loop μ-loop
-loop-less c = search needs
+loop-less c = omega (arith, c .before .before .before .before .before .before .before .before .before .before .before .before .before .loop-test .taken)
 
 loop-again : tie.Need-loop-again Inv-loop μ-loop
 loop-again c =
-    let f = c .before in
-    let l = f .before .before .before in
-    (omega (arith, l .loop .inv .0), omega (arith, l .loop .inv .1), f .undo-one .kept .1 .1 .1 .1 .1 .1 .0 ∙ l .loop .inv .2, f .undo-one .ensures .0)
-
-with-steps-requires : tie.Need-with-steps-requires Inv-loop μ-loop
-with-steps-requires c κs = search needs
+    let s = c .before .before .before .before .before .before .before .before .before .before .before .before .before .before .before .before .before .before .before .before in
+    let q = s .args in
+    let l = c .before .before .before .before .before .before .before .before .before .before .before .before .before .before in
+    let o = c .before .before .before .before .before .before in
+    let i = l .loop .inv in
+    let t = c .before .before .before .before .before .before .before .before .before .before .before .before .before .loop-test .taken in (
+      omega (arith, t),
+      undoing-more (area (length (q .plane .now)) (q .stride) (q .width) (q .height)) (lent (q .plane .now) (q .steps .now) (q .levels .now) (q .index .now)) (lent (l .loop .plane) (l .loop .steps) (l .loop .levels) (l .loop .index)) (lent (o .undo .last .1 .1 .1 .0) (o .undo .last .1 .1 .1 .1 .0) (o .undo .last .1 .1 .1 .1 .1 .0) (o .undo .last .1 .1 .1 .1 .1 .1 .0)) (l .loop .i) (i .1) (omega (arith, i .1 .left, s .pre .1, t))
+          (subst (λ (n : ℕ). (done, lent (o .undo .last .1 .1 .1 .0) (o .undo .last .1 .1 .1 .1 .0) (o .undo .last .1 .1 .1 .1 .1 .0) (o .undo .last .1 .1 .1 .1 .1 .1 .0)) ≡ undoOf (area n (q .stride) (q .width) (q .height)) (lent (l .loop .plane) (l .loop .steps) (l .loop .levels) (l .loop .index))) (i .2) (o .undo .ensures)),
+      o .undo .kept .1 .1 .1 .0 ∙ i .2,
+      o .undo .kept .1 .1 .1 .1 .0 ∙ i .3,
+      o .undo .kept .1 .1 .1 .1 .1 .0 ∙ i .4,
+      o .undo .kept .1 .1 .1 .1 .1 .1 .0 ∙ i .5,
+    )
 
 same-length : tie.Need-same-length Inv-loop μ-loop
-same-length c = c .before .before .loop .inv .2
+same-length c = c .before .loop .inv .2
+
+same-length-2 : tie.Need-same-length-2 Inv-loop μ-loop
+same-length-2 c = c .before .loop .inv .3
+
+same-length-3 : tie.Need-same-length-3 Inv-loop μ-loop
+same-length-3 c = c .before .loop .inv .4
+
+same-length-4 : tie.Need-same-length-4 Inv-loop μ-loop
+same-length-4 c = c .before .loop .inv .5
 
 returns : tie.Need-returns Inv-loop μ-loop
 returns c =
-    let l = c .before .before in
-    let s = l .before in
-    (sound-steps (s .pre .0 .0) (c .with-steps .ensures) (l .loop .inv .1), held-steps (s .args .s) (c .with-steps .result) (l .loop .k) (l .loop .room) (s .args .past .now) (c .with-steps .ensures) (l .loop .inv .3))
+    let s = c .before .before .before .before .before .before .before in
+    let q = s .args in
+    let l = c .before in
+    let e : l .loop .i ≡ q .k = omega (arith, l .loop .inv .0) in
+    l .loop .inv .1 .is ∙ ap (λ j. undone (area (length (q .plane .now)) (q .stride) (q .width) (q .height)) j (lent (q .plane .now) (q .steps .now) (q .levels .now) (q .index .now))) e
 
 pub undo-some-spec : {M : Type 1} → statement M
 undo-some-spec =
@@ -58,12 +98,16 @@ undo-some-spec =
     (tie.spec
     Inv-loop
     μ-loop
+    word-requires
+    say-nothing-requires
     loop-holds
-    undo-one-requires
-    sub-k
-    sub-left
+    say-undo-requires
+    undo-requires
+    add-i
     loop-less
     loop-again
-    with-steps-requires
     same-length
+    same-length-2
+    same-length-3
+    same-length-4
     returns)

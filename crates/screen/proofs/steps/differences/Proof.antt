@@ -12,7 +12,7 @@ use Rattle.whole.proofs.Fill.{Filling, fill-start, fill-more, fill-done}
 use Rattle.whole.proofs.Num.{ask, read}
 use Rattle.lossless.specs.Gains.{numbers}
 use Rattle.lossless.proofs.Adding.{cell-lies}
-use Rattle.screen.proofs.Entries.{gap}
+use Rattle.screen.proofs.Levels.{gap}
 use Rattle.screen.proofs.steps.differences.Statement.{statement}
 use Rattle.screen.proofs.steps.differences.Tie as tie
 

@@ -21,7 +21,7 @@ use Rattle.lossless.proofs.Adding.{rows-end, sample-size}
 use Rattle.screen.specs.Planes.{standsOf}
 use Rattle.screen.specs.Steps.{Near}
 use Rattle.screen.proofs.Planes.{stands-is, block-fits}
-use Rattle.screen.proofs.Entries.{found, levels-off, levels-bad, levels-new, gaps-small}
+use Rattle.screen.proofs.Levels.{found, levels-off, levels-bad, levels-new, gaps-small}
 use Rattle.screen.proofs.steps.levels_to.Statement.{statement}
 use Rattle.screen.proofs.steps.levels_to.Tie as tie
 

@@ -1,0 +1,2 @@
+-- Orders: a command that can be carried out.
+pub mod Orders
