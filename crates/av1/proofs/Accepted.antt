@@ -14,12 +14,11 @@ use lib.IntN.{ℤ, natAbs}
 use lib.ListN.{length}
 use lib.Pow.{pow-mono}
 use Rattle.whole.specs.Search.{seek}
-use Rattle.whole.specs.Sums.{Within}
+use Rattle.whole.specs.Sums.{Within, item}
 use Rattle.whole.proofs.Range.{in-range-size, lowest-size, highest-size}
 use Rattle.whole.proofs.Search.{seek-passed}
 use Rattle.whole.proofs.Tests.{both}
 use Rattle.answers.proofs.Verdicts.{passed, search-passed}
-use Rattle.av1.specs.Steps.{item}
 use Rattle.av1.specs.Tables.{lengthOk}
 use Rattle.av1.specs.Calls.{low, high, numberOk, front}
 

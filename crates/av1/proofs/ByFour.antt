@@ -10,9 +10,9 @@ use lib.ListN.{length}
 use Rattle.answers.specs.declared.Answer.{Answer}
 use Rattle.answers.specs.Answers.{done, ends}
 use Rattle.whole.specs.Numbers.{inRange}
-use Rattle.whole.specs.Sums.{tab}
+use Rattle.whole.specs.Sums.{tab, item}
 use Rattle.whole.proofs.Fill.{tab-list}
-use Rattle.av1.specs.Steps.{item, turnX, turnY, sumsOf, stepOf, onward, goes}
+use Rattle.av1.specs.Steps.{turnX, turnY, sumsOf, stepOf, onward, goes}
 use Rattle.av1.specs.Tables.{angles4, from4, ops4}
 use Rattle.av1.specs.Calls.{settled, ran}
 use Rattle.av1.specs.Four.{fourVerdict}

@@ -21,12 +21,12 @@ use Rattle.answers.specs.declared.Answer.{Answer}
 use Rattle.answers.specs.Answers.{done, refused}
 use Rattle.answers.proofs.Verdicts.{passed}
 use Rattle.whole.specs.Numbers.{inRange}
-use Rattle.whole.specs.Sums.{Within}
+use Rattle.whole.specs.Sums.{Within, item}
 use Rattle.whole.proofs.Num.{Num, plus, minus, times}
 use Rattle.whole.proofs.Range.{in-range-size}
 use Rattle.whole.proofs.Sums.{within-all}
 use Rattle.whole.proofs.Tests.{and-left, and-right}
-use Rattle.av1.specs.Steps.{item, turnX, turnY, turnOf, sumsOf, stepOf, onward, goes}
+use Rattle.av1.specs.Steps.{turnX, turnY, turnOf, sumsOf, stepOf, onward, goes}
 use Rattle.av1.specs.Room.{roomOf, marked, angleOf, legalStep, legal, Rests, StepRoom, Cosines}
 use Rattle.av1.proofs.Wide.{half, small-floor}
 

@@ -15,8 +15,8 @@ use Rattle.answers.specs.declared.Answer.{Answer}
 use Rattle.answers.specs.Answers.{done, refused, unless, searched, ends}
 use Rattle.whole.specs.Numbers.{inRange, lowest, highest}
 use Rattle.whole.specs.Search.{seek}
-use Rattle.whole.specs.Sums.{tab}
-use Rattle.av1.specs.Steps.{item, goes}
+use Rattle.whole.specs.Sums.{tab, item}
+use Rattle.av1.specs.Steps.{goes}
 use Rattle.av1.specs.Tables.{lengthOk, anglesOf, fromOf, opsOf, countOf}
 
 abbrev pub low : ℕ → ℤ

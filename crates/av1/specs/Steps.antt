@@ -13,14 +13,12 @@ use mathlib.Core.Bool.{cond}
 use mathlib.Core.List.{List}
 use Prim.Native.Nat.{ℕ, zero, suc, _+_, _*_, _-_}
 use lib.Dec.{eqb, ltb}
-use lib.IntN.{ℤ, pos, _+ℤ_, _-ℤ_, _*ℤ_}
+use lib.IntN.{ℤ, _+ℤ_, _-ℤ_, _*ℤ_}
 use lib.ListN.{getD, set}
+use Rattle.whole.specs.Sums.{item}
 use Rattle.answers.specs.declared.Answer.{Answer}
 use Rattle.answers.specs.Answers.{done, refused, unless, ends}
 use Rattle.whole.specs.Numbers.{inRange, roundShift}
-
-abbrev pub item : List ℤ → ℕ → ℤ
-item l k = getD l k (pos 0)
 
 abbrev pub cosOf : List ℤ → ℕ → ℤ
 cosOf cos h = item cos (h * 2)

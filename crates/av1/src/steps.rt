@@ -3,8 +3,8 @@ ghost use mathlib.Core.Path.{_≡_};
 ghost use Prim.Native.Nat.{_+_, _*_, _^_, _≤_, _<_};
 ghost use lib.IntN.{natAbs};
 ghost use lib.ListN.{length};
-ghost use Rattle.whole.specs.Sums.{Within};
-ghost use Rattle.av1.specs.Steps.{item, turnX, turnY, turnOf, sumsOf, stepOf, goes};
+ghost use Rattle.whole.specs.Sums.{Within, item};
+ghost use Rattle.av1.specs.Steps.{turnX, turnY, turnOf, sumsOf, stepOf, goes};
 ghost use Rattle.av1.specs.Room.{StepRoom, Program, Cosines};
 use answers::Answer;
 

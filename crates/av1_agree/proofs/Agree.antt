@@ -20,11 +20,11 @@ use Rattle.answers.specs.declared.Answer.{Answer}
 use Rattle.answers.specs.Answers.{done, refused, unless, searched, ends}
 use Rattle.whole.specs.Numbers.{inRange}
 use Rattle.whole.specs.Search.{seek}
-use Rattle.whole.specs.Sums.{tab}
+use Rattle.whole.specs.Sums.{tab, item}
 use Rattle.whole.proofs.Fill.{length-tab, tab-same}
 use Rattle.whole.proofs.Tests.{and-left, and-right, below, below-at}
 use Rattle.whole.proofs.Linear.{eqZ, eqZ→eq}
-use Rattle.av1.specs.Steps.{item, cosOf, sinOf, turnX, turnY, turnOf, sumsOf, stepOf, onward, goes}
+use Rattle.av1.specs.Steps.{cosOf, sinOf, turnX, turnY, turnOf, sumsOf, stepOf, onward, goes}
 use Rattle.av1.specs.Tables.{angles4, angles8, angles16, angles32, angles64, anglesOf, from4, from8, from16, from32, from64, ops4, ops8, ops16, ops32, ops64, lengthOk, fromOf, opsOf, countOf}
 use Rattle.av1.specs.Calls.{low, high, numberOk, permuted, settled, ran, front, ranOf, dctOf}
 use Rattle.av1_agree.specs.Document.{cos128, sin128, brev, Step, B, H, steps, after, saved, runs, log, firstOut, reordered, processed, byDocument}

@@ -15,6 +15,7 @@ use lib.Dec.{eqb, leb}
 use lib.IntN.{ℤ, pos, negsuc, negℤ, natAbs, _+ℤ_, _-ℤ_}
 use lib.ListN.{length, getD}
 use lib.Pow.{pow-add, suc-ones}
+use Rattle.whole.specs.Sums.{item}
 use Rattle.answers.specs.declared.Answer.{Answer}
 use Rattle.answers.specs.Answers.{done, refused, unless, searched, ends}
 use Rattle.whole.specs.Numbers.{inRange, floorDiv}
@@ -27,7 +28,6 @@ use Rattle.wht.specs.declared.blocks.Quad.{Quad}
 use Rattle.wht.specs.declared.blocks.Block.{Block}
 use Rattle.wht.specs.Wht.{foreWith, fore, swap, back, turn, back44, block, flat, iwht}
 use Rattle.wht.proofs.Inverse.{flat-block}
-use Rattle.av1.specs.Steps.{item}
 use Rattle.av1.specs.Calls.{low, high, numberOk}
 use Rattle.av1_wht.specs.Wht.{quarters, whtVerdict, whtOf}
 use Rattle.av1_agree.specs.Document.{firstOut}

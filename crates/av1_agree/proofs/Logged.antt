@@ -12,11 +12,11 @@ use borrow.Author.Tests.{eqb-true, le-leb, lt-leb}
 use lib.Dec.{eqb}
 use lib.IntN.{ℤ}
 use lib.ListN.{length}
+use Rattle.whole.specs.Sums.{item}
 use Rattle.answers.specs.declared.Answer.{Answer}
 use Rattle.answers.specs.Answers.{refused, unless, searched, ends}
 use Rattle.whole.specs.Numbers.{inRange}
 use Rattle.whole.specs.Search.{seek}
-use Rattle.av1.specs.Steps.{item}
 use Rattle.av1.specs.Calls.{settled}
 use Rattle.av1_agree.specs.Document.{firstOut}
 

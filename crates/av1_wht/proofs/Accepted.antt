@@ -12,7 +12,7 @@ use lib.IntN.{ℤ, pos, negsuc, natAbs}
 use lib.ListN.{length}
 use Rattle.whole.specs.Numbers.{floorDiv}
 use Rattle.whole.specs.Search.{seek}
-use Rattle.whole.specs.Sums.{Within}
+use Rattle.whole.specs.Sums.{Within, item}
 use Rattle.whole.proofs.Fill.{length-tab, within-tab}
 use Rattle.whole.proofs.Range.{in-range-size}
 use Rattle.whole.proofs.Search.{seek-passed}
@@ -20,7 +20,6 @@ use Rattle.whole.proofs.Sums.{within-all}
 use Rattle.whole.proofs.Tests.{both}
 use Rattle.answers.proofs.Verdicts.{passed, search-passed}
 use Rattle.wht.specs.Calls.{Sixteen}
-use Rattle.av1.specs.Steps.{item}
 use Rattle.av1.specs.Calls.{low, high, numberOk}
 use Rattle.av1.proofs.Accepted.{low-size, high-size}
 use Rattle.av1_wht.specs.Wht.{quarters, whtVerdict}

@@ -14,9 +14,8 @@ use Rattle.answers.specs.declared.Answer.{Answer}
 use Rattle.answers.specs.Answers.{done, refused, unless, searched, ends}
 use Rattle.whole.specs.Numbers.{floorDiv}
 use Rattle.whole.specs.Search.{seek}
-use Rattle.whole.specs.Sums.{tab}
+use Rattle.whole.specs.Sums.{tab, item}
 use Rattle.wht.specs.Wht.{iwht}
-use Rattle.av1.specs.Steps.{item}
 use Rattle.av1.specs.Calls.{low, high, numberOk}
 
 abbrev pub quarters : List ℤ → List ℤ

@@ -8,12 +8,12 @@ use Prim.Native.Nat.{ℕ}
 use lib.Dec.{leb}
 use lib.IntN.{ℤ, pos, natAbs}
 use lib.ListN.{getD, length-map, List·getD-map}
+use Rattle.whole.specs.Sums.{item}
 use Rattle.answers.specs.declared.Answer.{Answer}
 use Rattle.answers.specs.Answers.{done}
 use Rattle.octets.specs.Octets.{Bytes}
 use Rattle.octets.proofs.Lists.{byte-is, bytes-all}
 use Rattle.wht.specs.Wht.{fwht}
-use Rattle.lossless.specs.Gains.{numbers}
 use Rattle.lossless.specs.Step.{Where, spot, sample, fits, stepOf}
 use Rattle.lossless.specs.Wanted.{Ready, Samples, difference, stepWith}
 use Rattle.lossless.proofs.Wanted.{exists, unique}
@@ -21,8 +21,8 @@ use Rattle.bytesteps.specs.Steps.{stepBytes}
 use Rattle.bytesteps.specs.Wanted.{ReadyBytes, SixteenBytes, ShowsBytes, stepToBytes}
 use Rattle.bytesteps.proofs.Widened.{at-eight, step-back}
 
-in-range : (depth : ℕ) → depth ≡ 8 → (b : List ℕ) → Bytes b → (i : ℕ) → sample depth (numbers (map pos b) i) ≡ true
-in-range depth e b h i = ap (λ (d : ℕ). sample d (numbers (map pos b) i)) e ∙ ap (sample 8) (List·getD-map pos b i 0) ∙ byte-is (getD b i 0) (bytes-all b h i)
+in-range : (depth : ℕ) → depth ≡ 8 → (b : List ℕ) → Bytes b → (i : ℕ) → sample depth (item (map pos b) i) ≡ true
+in-range depth e b h i = ap (λ (d : ℕ). sample d (item (map pos b) i)) e ∙ ap (sample 8) (List·getD-map pos b i 0) ∙ byte-is (getD b i 0) (bytes-all b h i)
 
 module _ (b : List ℕ) (w : Where) (c : List ℕ) (r : ReadyBytes b w) (wanted : SixteenBytes c) where
   ready : Ready (map pos b) w
@@ -54,6 +54,6 @@ module _ (b : List ℕ) (w : Where) (c : List ℕ) (r : ReadyBytes b w) (wanted 
       let is = at-eight stepOf b s (r .eight) in
       let left = stepOf (map pos b) s .1 in
       unique (map pos b) w (map pos c) ready sixteen l (ap (λ (y : Answer × List ℕ). y .0 .number) (sym is) ∙ e) (record {
-        shown = λ k h. ap (λ (p : List ℤ). numbers p (spot w k)) (sym (step-back b s)) ∙ List·getD-map pos (map natAbs left) (spot w k) 0
+        shown = λ k h. ap (λ (p : List ℤ). item p (spot w k)) (sym (step-back b s)) ∙ List·getD-map pos (map natAbs left) (spot w k) 0
             ∙ ap pos (ap (λ (y : Answer × List ℕ). getD (y .1) (spot w k) 0) (sym is) ∙ sh .shown k h) ∙ sym (List·getD-map pos c k 0);
       })

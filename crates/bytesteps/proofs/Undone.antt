@@ -10,11 +10,11 @@ use Prim.Native.Nat.{ℕ, _≤_}
 use native.Mathlib.Decide.{ℕ-discrete}
 use lib.IntN.{ℤ, pos, negℤ, natAbs}
 use lib.ListN.{length, getD, List·getD-map}
+use Rattle.whole.specs.Sums.{item}
 use Rattle.answers.specs.declared.Answer.{Answer}
 use Rattle.answers.specs.Answers.{done}
 use Rattle.octets.proofs.Lists.{numbers-back}
 use Rattle.wht.specs.Wht.{iwht}
-use Rattle.lossless.specs.Gains.{numbers}
 use Rattle.lossless.specs.Step.{Step, spot, sample, front, stepOf, undoOf}
 use Rattle.lossless.specs.History.{after, trail, newest, found, Undoes}
 use Rattle.lossless.specs.Pad.{InPad, Call, InPads, none, more}
@@ -49,7 +49,7 @@ module _ (f : List ℤ → Step → Answer × List ℤ) (b : List ℕ) (s : Step
           ap (λ (x : Answer × List ℕ). x .1) is ∙ ap (map natAbs) (k (λ q. h (ap (λ (x : Answer × List ℕ). x .0 .number) is ∙ q))) ∙ numbers-back b
       by-depth (no e) = ap (λ (x : Answer × List ℕ). x .1) (other-depth f b s e)
 
-  still : (i : ℕ) → numbers (f (map pos b) s .1) i ≡ numbers (map pos b) i → getD (onBytes f b s .1) i 0 ≡ getD b i 0
+  still : (i : ℕ) → item (f (map pos b) s .1) i ≡ item (map pos b) i → getD (onBytes f b s .1) i 0 ≡ getD b i 0
   still i h = by-depth (ℕ-discrete (s .at .depth) 8)
     where
       by-depth : Dec (s .at .depth ≡ 8) → getD (onBytes f b s .1) i 0 ≡ getD b i 0
@@ -64,10 +64,10 @@ module _ (b : List ℕ) (s : Step) where
   undo-redone = exact undoOf stepOf b s (undo-back b s) (redo-exact (map pos b) s)
 
   pub step-left : (stepBytes b s .0 .number ≡ 0 → ⊥) → stepBytes b s .1 ≡ b
-  step-left = left stepOf b s (refused-is (front (length (map pos b)) s) (sample (s .at .depth)) (spot (s .at)) (map pos b) (numbers (iwht (s .levels))))
+  step-left = left stepOf b s (refused-is (front (length (map pos b)) s) (sample (s .at .depth)) (spot (s .at)) (map pos b) (item (iwht (s .levels))))
 
   pub undo-left : (undoBytes b s .0 .number ≡ 0 → ⊥) → undoBytes b s .1 ≡ b
-  undo-left = left undoOf b s (refused-is (front (length (map pos b)) s) (sample (s .at .depth)) (spot (s .at)) (map pos b) (numbers (map negℤ (iwht (s .levels)))))
+  undo-left = left undoOf b s (refused-is (front (length (map pos b)) s) (sample (s .at .depth)) (spot (s .at)) (map pos b) (item (map negℤ (iwht (s .levels)))))
 
 pub bytes-history : (b : List ℕ) (ts : List Step) (k : ℕ) → k ≤ length (trail stepBytes b ts)
     → Undoes undoBytes (after stepBytes b ts) (newest k (trail stepBytes b ts)) (found (after stepBytes b ts) (trail stepBytes b ts) k)

@@ -16,6 +16,7 @@ use lib.Dec.{T, eqb}
 use lib.IntN.{ℤ, pos, negsuc, negℤ, natAbs, _+ℤ_, +ℤ-idr}
 use lib.Signed.{nonNeg}
 use lib.ListN.{length, List·getD-map}
+use Rattle.whole.specs.Sums.{item}
 use Rattle.whole.specs.Search.{seek}
 use Rattle.answers.specs.declared.Answer.{Answer}
 use Rattle.answers.specs.Answers.{done, refused}
@@ -24,7 +25,7 @@ use Rattle.octets.specs.Octets.{Bytes}
 use Rattle.octets.proofs.Lists.{bytes-all, numbers-back, bytes-back}
 use Rattle.wht.specs.Wht.{iwht}
 use Rattle.wht.specs.Calls.{numberOk}
-use Rattle.lossless.specs.Gains.{numbers, gain, gained, laterOk, samples, judged, gaining}
+use Rattle.lossless.specs.Gains.{gain, gained, laterOk, samples, judged, gaining}
 use Rattle.lossless.specs.Step.{Step, spot, sample, deep, strides, widths, fits, front, gainOf, stepOf, undoOf}
 use Rattle.lossless.proofs.Gains.{length-addOn, getD-addOn}
 use Rattle.lossless.proofs.Blocks.{Passes}
@@ -56,16 +57,16 @@ module _ (b : List ℕ) (s : Step) (g : ℕ → ℤ) where
   abbrev at : ℕ → ℕ
   at = spot (s .at)
 
-  plain-at : (i : ℕ) → T (nonNeg (numbers (map pos b) i))
+  plain-at : (i : ℕ) → T (nonNeg (item (map pos b) i))
   plain-at i = subst (λ (z : ℤ). T (nonNeg z)) (sym (List·getD-map pos b i 0)) tt
 
-  plain-gain : Passes (sample (s .at .depth)) at (map pos b) g → (n : ℕ) → n ≤ 16 → (i : ℕ) → T (nonNeg (numbers (map pos b) i +ℤ gain at g n i))
+  plain-gain : Passes (sample (s .at .depth)) at (map pos b) g → (n : ℕ) → n ≤ 16 → (i : ℕ) → T (nonNeg (item (map pos b) i +ℤ gain at g n i))
   unfolding gain
-  plain-gain p zero l i = subst (λ (z : ℤ). T (nonNeg z)) (sym (+ℤ-idr (numbers (map pos b) i))) (plain-at i)
+  plain-gain p zero l i = subst (λ (z : ℤ). T (nonNeg z)) (sym (+ℤ-idr (item (map pos b) i))) (plain-at i)
   plain-gain p (suc n) l i = by-place (eqb (at n) i) refl (plain-gain p n (omega arith) i)
     where
-      by-place : (t : Bool) → eqb (at n) i ≡ t → T (nonNeg (numbers (map pos b) i +ℤ gain at g n i)) → T (nonNeg (numbers (map pos b) i +ℤ cond t (g n) (gain at g n i)))
-      by-place true e r = subst (λ (j : ℕ). T (nonNeg (numbers (map pos b) j +ℤ g n))) (eqb-true (at n) i e) (sample-plain (s .at .depth) (numbers (map pos b) (at n) +ℤ g n) (p .later n l))
+      by-place : (t : Bool) → eqb (at n) i ≡ t → T (nonNeg (item (map pos b) i +ℤ gain at g n i)) → T (nonNeg (item (map pos b) i +ℤ cond t (g n) (gain at g n i)))
+      by-place true e r = subst (λ (j : ℕ). T (nonNeg (item (map pos b) j +ℤ g n))) (eqb-true (at n) i e) (sample-plain (s .at .depth) (item (map pos b) (at n) +ℤ g n) (p .later n l))
       by-place false e r = r
 
   pub gain-back : map pos (map natAbs (gainOf (map pos b) s g .1)) ≡ gainOf (map pos b) s g .1
@@ -86,10 +87,10 @@ module _ (b : List ℕ) (s : Step) (g : ℕ → ℤ) where
 -- ---- the calls
 module _ (b : List ℕ) (s : Step) where
   pub step-back : map pos (map natAbs (stepOf (map pos b) s .1)) ≡ stepOf (map pos b) s .1
-  step-back = gain-back b s (numbers (iwht (s .levels)))
+  step-back = gain-back b s (item (iwht (s .levels)))
 
   pub undo-back : map pos (map natAbs (undoOf (map pos b) s .1)) ≡ undoOf (map pos b) s .1
-  undo-back = gain-back b s (numbers (map negℤ (iwht (s .levels))))
+  undo-back = gain-back b s (item (map negℤ (iwht (s .levels))))
 
   wide : (call : List ℤ → Step → Answer × List ℤ) → map pos (map natAbs (call (map pos b) s .1)) ≡ call (map pos b) s .1 → s .at .depth ≡ 8 → call (map pos b) s ≡ (onBytes call b s .0, map pos (onBytes call b s .1))
   wide call back e = (λ i. (call (map pos b) s .0, sym back i)) ∙ ap (λ (x : Answer × List ℕ). (x .0, map pos (x .1))) (sym (at-eight call b s e))
@@ -141,7 +142,7 @@ module _ (b : List ℕ) (bytes : Bytes b) (s : Step) where
       by-depth (no e) = omega (arith, ap (λ (x : Answer × List ℕ). x .0 .number) (other-depth (λ p s. gainOf p s g) b s e), h)
 
   pub step-eight-never : stepBytes b s .0 .number ≡ 8 → ⊥
-  step-eight-never = bytes-not (numbers (iwht (s .levels)))
+  step-eight-never = bytes-not (item (iwht (s .levels)))
 
   pub undo-eight-never : undoBytes b s .0 .number ≡ 8 → ⊥
-  undo-eight-never = bytes-not (numbers (map negℤ (iwht (s .levels))))
+  undo-eight-never = bytes-not (item (map negℤ (iwht (s .levels))))

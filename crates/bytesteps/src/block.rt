@@ -5,11 +5,12 @@ ghost use mathlib.Core.List.{map};
 ghost use Prim.Native.Nat.{ℕ, _+_, _*_, _≤_, _<_};
 ghost use lib.IntN.{pos, natAbs, _+ℤ_};
 ghost use lib.ListN.{length, getD};
+ghost use Rattle.whole.specs.Sums.{item};
 ghost use Rattle.answers.specs.Answers.{ends};
 ghost use Rattle.whole.specs.Search.{seek, cellAt};
 ghost use Rattle.octets.specs.Octets.{isByte};
 ghost use Rattle.wht.specs.Calls.{Sixteen};
-ghost use Rattle.lossless.specs.Gains.{numbers, gained, laterOk, samples};
+ghost use Rattle.lossless.specs.Gains.{gained, laterOk, samples};
 ghost use Rattle.lossless.specs.Step.{sample};
 use answers::Answer;
 
@@ -28,7 +29,7 @@ fn nearer(x: u8, e: i32, k: usize, found: usize) -> usize
 // The number of the first byte that would leave 0 .. 255, or 16. Every byte is read, from the last one on.
 fn first_leaving(plane: &[u8], gains: &[i32], start: usize, stride: usize) -> usize
     requires { ⌜ (start + 3 * stride + 4 ≤ length (now plane)) × Sixteen 1048576 (now gains) ⌝ }
-    ensures { λ r. ⌜ r ≡ seek (laterOk (sample 8) (cellAt start stride 4) (map pos (now (plane .entry))) (numbers (now (gains .entry)))) 0 16 ⌝ }
+    ensures { λ r. ⌜ r ≡ seek (laterOk (sample 8) (cellAt start stride 4) (map pos (now (plane .entry))) (item (now (gains .entry)))) 0 16 ⌝ }
     ensures { λ r. ⌜ ((k : ℕ) → k < 16 → getD (now (plane .entry)) (cellAt start stride 4 k) 0 ≤ 255) ⌝ }
 {
     let mut found = 16;
@@ -54,8 +55,8 @@ fn raised(x: u8, e: i32) -> u8
 // Each byte of the block gains its number.
 fn add(plane: &mut [u8], gains: &[i32], start: usize, stride: usize)
     requires { ⌜ (start + 3 * stride + 4 ≤ length (now plane)) × Sixteen 1048576 (now gains) × (4 ≤ stride) ⌝ }
-    requires { ⌜ ((k : ℕ) → k < 16 → laterOk (sample 8) (cellAt start stride 4) (map pos (now plane)) (numbers (now gains)) k ≡ true) ⌝ }
-    ensures { λ _. ⌜ now (plane .exit) ≡ map natAbs (gained (cellAt start stride 4) (numbers (now (gains .entry))) (map pos (now (plane .entry)))) ⌝ }
+    requires { ⌜ ((k : ℕ) → k < 16 → laterOk (sample 8) (cellAt start stride 4) (map pos (now plane)) (item (now gains)) k ≡ true) ⌝ }
+    ensures { λ _. ⌜ now (plane .exit) ≡ map natAbs (gained (cellAt start stride 4) (item (now (gains .entry))) (map pos (now (plane .entry)))) ⌝ }
 {
     let mut k = 0;
     while k < 16 {
@@ -68,8 +69,8 @@ fn add(plane: &mut [u8], gains: &[i32], start: usize, stride: usize)
 // The bytes of the block gain their numbers, or a refusal and nothing written.
 pub fn gain(plane: &mut [u8], gains: &[i32], start: usize, stride: usize) -> Answer
     requires { ⌜ (start + 3 * stride + 4 ≤ length (now plane)) × Sixteen 1048576 (now gains) × (4 ≤ stride) ⌝ }
-    ensures { λ r. ⌜ (r, now (plane .exit)) ≡ ends (samples (sample 8) (cellAt start stride 4) (map pos (now (plane .entry))) (numbers (now (gains .entry)))) (now (plane .entry))
-        (map natAbs (gained (cellAt start stride 4) (numbers (now (gains .entry))) (map pos (now (plane .entry))))) ⌝ }
+    ensures { λ r. ⌜ (r, now (plane .exit)) ≡ ends (samples (sample 8) (cellAt start stride 4) (map pos (now (plane .entry))) (item (now (gains .entry)))) (now (plane .entry))
+        (map natAbs (gained (cellAt start stride 4) (item (now (gains .entry))) (map pos (now (plane .entry))))) ⌝ }
 {
     let leaving = first_leaving(plane, gains, start, stride);
     if leaving < 16 {

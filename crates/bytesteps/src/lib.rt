@@ -1,6 +1,6 @@
 // The lossless step and its undo for the eight-bit panel of document 02, section 4: planes of bytes, depth 8.
 ghost use mathlib.Core.Path.{_≡_};
-ghost use Rattle.lossless.specs.Gains.{numbers};
+ghost use Rattle.whole.specs.Sums.{item};
 ghost use Rattle.lossless.specs.Step.{attempt, gainOf};
 ghost use Rattle.lossless.specs.Bounds.{change};
 ghost use Rattle.bytesteps.specs.Steps.{onBytes, stepBytes, undoBytes};
@@ -20,7 +20,7 @@ fn step_or_undo(
     level: &[i32],
     undo: bool,
 ) -> Answer
-    ensures { λ r. ⌜ (r, now (plane .exit)) ≡ onBytes (λ p s. gainOf p s (numbers (change undo (now (level .entry))))) (now (plane .entry)) (attempt depth stride width row column (now (level .entry))) ⌝ }
+    ensures { λ r. ⌜ (r, now (plane .exit)) ≡ onBytes (λ p s. gainOf p s (item (change undo (now (level .entry))))) (now (plane .entry)) (attempt depth stride width row column (now (level .entry))) ⌝ }
 {
     if depth != 8 {
         return answers::refusal(1, 0, 0);

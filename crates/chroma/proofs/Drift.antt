@@ -14,6 +14,7 @@ use borrow.Author.Tests.{eq-eqb}
 use lib.Dec.{ltb, ltb→lt, nltb→le, leb}
 use lib.IntN.{ℤ, pos, negsuc, negℤ, natAbs, _+ℤ_, _-ℤ_, _*ℤ_, *ℤ-comm, +ℤ-comm, negℤ-negℤ, negℤ-+ℤ}
 use lib.ListN.{length}
+use Rattle.whole.specs.Sums.{item}
 use Rattle.whole.specs.Numbers.{inRange, clamp}
 use Rattle.whole.proofs.Ring.{distr, distl, neg-mul, mul-neg, *ℤ-assoc}
 use Rattle.whole.proofs.Machine.{var, con, _⊕_, _⊖_, _⊗_}
@@ -26,7 +27,7 @@ use Rattle.whole.proofs.Search.{seek-all}
 use Rattle.whole.proofs.Fill.{length-tab}
 use Rattle.answers.specs.Answers.{done, refused}
 use Rattle.answers.proofs.Verdicts.{passed, opens, search-opens, taken}
-use Rattle.chroma.specs.Chroma.{low, high, round256, turnU, turnV, item, turned, pairOk, angleOk, shorterOf, badOf, firstBad, verdict, cctxOf}
+use Rattle.chroma.specs.Chroma.{low, high, round256, turnU, turnV, turned, pairOk, angleOk, shorterOf, badOf, firstBad, verdict, cctxOf}
 use Rattle.chroma.specs.Drift.{backU, backV, backOf, NoneClamped, drift, driftBound}
 use Rattle.chroma.proofs.Verdict.{Accepted, accepted}
 use Rattle.chroma.proofs.Outcomes.{Takes, pair-turned}

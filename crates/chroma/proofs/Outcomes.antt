@@ -9,10 +9,11 @@ use Prim.Native.Nat.{ℕ, _<_}
 use native.Mathlib.Omega.{arith}
 use lib.IntN.{ℤ, pos}
 use lib.ListN.{length}
+use Rattle.whole.specs.Sums.{item}
 use Rattle.whole.proofs.Fill.{tab-at}
 use Rattle.answers.specs.declared.Answer.{Answer}
 use Rattle.answers.proofs.Verdicts.{taken, left, one-outcome}
-use Rattle.chroma.specs.Chroma.{low, high, turnU, turnV, turned, item, verdict, cctxOf}
+use Rattle.chroma.specs.Chroma.{low, high, turnU, turnV, turned, verdict, cctxOf}
 use Rattle.chroma.proofs.Verdict.{accepted}
 
 module _ (s c : ℤ) (depth : ℕ) where

@@ -14,12 +14,12 @@ use lib.ListN.{length}
 use lib.Pow.{pow-mono}
 use Rattle.whole.specs.Numbers.{inRange}
 use Rattle.whole.specs.Search.{seek}
-use Rattle.whole.specs.Sums.{Within}
+use Rattle.whole.specs.Sums.{Within, item}
 use Rattle.whole.proofs.Range.{in-range-size, lowest-size, highest-size}
 use Rattle.whole.proofs.Search.{seek-passed}
 use Rattle.whole.proofs.Tests.{both}
 use Rattle.answers.proofs.Verdicts.{passed, search-passed}
-use Rattle.chroma.specs.Chroma.{low, high, item, pairOk, angleOk, badOf, firstBad, verdict}
+use Rattle.chroma.specs.Chroma.{low, high, pairOk, angleOk, badOf, firstBad, verdict}
 
 pub record Accepted (u v : List ℤ) (s c : ℤ) (depth : ℕ) : Type 0 where
   pub most : depth ≤ 12

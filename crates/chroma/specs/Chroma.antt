@@ -17,10 +17,10 @@ use mathlib.Core.List.{List}
 use Prim.Native.Nat.{ℕ, suc, _+_, _/_}
 use lib.Dec.{leb, ltb, eqb}
 use lib.IntN.{ℤ, pos, negsuc, negℤ, _+ℤ_, _-ℤ_, _*ℤ_}
-use lib.ListN.{length, getD}
+use lib.ListN.{length}
 use Rattle.whole.specs.Numbers.{inRange, clamp, lowest, highest}
 use Rattle.whole.specs.Search.{seek}
-use Rattle.whole.specs.Sums.{tab}
+use Rattle.whole.specs.Sums.{tab, item}
 use Rattle.answers.specs.Answers.{done, refused, unless, searched, ends}
 use Rattle.answers.specs.declared.Answer.{Answer}
 
@@ -40,9 +40,6 @@ turnU lo hi s c u v = clamp lo hi (round256 (u *ℤ c -ℤ v *ℤ s))
 
 abbrev pub turnV : ℤ → ℤ → ℤ → ℤ → ℤ → ℤ → ℤ
 turnV lo hi s c u v = clamp lo hi (round256 (u *ℤ s +ℤ v *ℤ c))
-
-abbrev pub item : List ℤ → ℕ → ℤ
-item l k = getD l k (pos 0)
 
 abbrev pub turned : ℤ → ℤ → ℤ → ℤ → List ℤ → List ℤ → List ℤ × List ℤ
 turned lo hi s c u v =

@@ -9,6 +9,7 @@ use lib.Ieee
 use lib.Ieee.{Float}
 use lib.IntN.{ℤ, pos, negℤ}
 use lib.ListN.{length}
+use Rattle.whole.specs.Sums.{item}
 use Rattle.answers.proofs.Verdicts.{left}
 use Rattle.pixels.specs.Calls.{Reading, addOf, floatOf}
 use Rattle.pixels.proofs.Outcomes.{add-outcome, add-left, float-outcome, float-left}
@@ -17,7 +18,6 @@ use Rattle.chroma.proofs.Outcomes.{refused-leaves, same-outcome}
 use Rattle.wht.specs.Wht.{fwht, iwht}
 use Rattle.wht.specs.Calls.{verdict, fwhtOf, iwhtOf}
 use Rattle.wht.proofs.Outcomes.{fwht-outcome, iwht-outcome}
-use Rattle.lossless.specs.Gains.{numbers}
 use Rattle.lossless.specs.Step.{Step, spot, sample, front, gainOf, stepOf, undoOf}
 use Rattle.lossless.proofs.Calls.{refused-is}
 use Rattle.lossless.proofs.Outcomes.{step-outcome, undo-outcome}
@@ -68,13 +68,13 @@ module _ (p : List ℤ) (s : Step) where
   gain-keeps g = refused-is (front (length p) s) (sample (s .at .depth)) (spot (s .at)) p g
 
   pub step-keeps : Keeps (stepOf p s) p
-  step-keeps = gain-keeps (numbers (iwht (s .levels)))
+  step-keeps = gain-keeps (item (iwht (s .levels)))
 
   pub step-one : One (stepOf p s)
   step-one x y = step-outcome p s
 
   pub undo-keeps : Keeps (undoOf p s) p
-  undo-keeps = gain-keeps (numbers (map negℤ (iwht (s .levels))))
+  undo-keeps = gain-keeps (item (map negℤ (iwht (s .levels))))
 
   pub undo-one : One (undoOf p s)
   undo-one x y = undo-outcome p s

@@ -10,7 +10,8 @@ use mathlib.Core.List.{List}
 use Prim.Native.Nat.{ℕ, _≤_, _<_}
 use lib.IntN.{ℤ, natAbs}
 use lib.ListN.{length}
-use Rattle.chroma.specs.Chroma.{low, high, item, cctxOf}
+use Rattle.whole.specs.Sums.{item}
+use Rattle.chroma.specs.Chroma.{low, high, cctxOf}
 use Rattle.chroma.specs.Drift.{backU, backV, backOf, NoneClamped, drift, driftBound}
 use Rattle.chroma.proofs.Outcomes.{Takes, pair-alone}
 use Rattle.chroma.proofs.Drift.{drift-u, drift-v, back-taken, calls-drift}

@@ -15,9 +15,9 @@ use mathlib.Core.List.{List, _∷_, _++_}
 use Prim.Native.Nat.{ℕ, _≤_, _<_}
 use lib.IntN.{ℤ}
 use lib.ListN.{length}
+use Rattle.whole.specs.Sums.{item}
 use Rattle.answers.specs.Answers.{done}
 use Rattle.wht.specs.Wht.{fwht}
-use Rattle.lossless.specs.Gains.{numbers}
 use Rattle.lossless.specs.Step.{Where, Step, spot, stepOf, undoOf}
 use Rattle.lossless.specs.Pad.{callOf, Call, InPads}
 use Rattle.lossless.proofs.Pad.{pad-calls}
@@ -43,7 +43,7 @@ module _ (p : List ℤ) (w : Where) (b : List ℤ) (present : Ready p w) (wanted
   pub wanted-only : (l : List ℤ) → stepOf p (stepWith w l) .0 .number ≡ 0 → Shows (stepOf p (stepWith w l) .1) w b → l ≡ fwht (difference p w b)
   wanted-only = unique p w b present wanted
 
-pub pad-kept : (p : List ℤ) (cs : List Call) (i : ℕ) → InPads i cs → numbers (after callOf p cs) i ≡ numbers p i
+pub pad-kept : (p : List ℤ) (cs : List Call) (i : ℕ) → InPads i cs → item (after callOf p cs) i ≡ item p i
 pad-kept = pad-calls
 
 -- ---- out of the middle
@@ -59,8 +59,8 @@ module _ (p r : List ℤ) where
 
 -- ---- everywhere else
 module _ (p : List ℤ) (s : Step) (i : ℕ) (other : (k : ℕ) → k < 16 → spot (s .at) k ≡ i → ⊥) where
-  pub step-elsewhere : numbers (stepOf p s .1) i ≡ numbers p i
+  pub step-elsewhere : item (stepOf p s .1) i ≡ item p i
   step-elsewhere = step-outside p s i other
 
-  pub undo-elsewhere : numbers (undoOf p s .1) i ≡ numbers p i
+  pub undo-elsewhere : item (undoOf p s .1) i ≡ item p i
   undo-elsewhere = undo-outside p s i other

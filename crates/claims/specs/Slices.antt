@@ -11,10 +11,11 @@ use Prim.Native.Nat.{ℕ, _*_}
 use lib.Dec.{eqb, leb, ltb}
 use lib.IntN.{ℤ}
 use lib.ListN.{length}
+use Rattle.whole.specs.Sums.{item}
 use Rattle.whole.specs.Numbers.{inRange}
 use Rattle.tables.specs.Sizes.{cut}
 use Rattle.verdicts.specs.Verdicts.{wOf, hOf}
-use Rattle.chroma.specs.Chroma.{low, high, item}
+use Rattle.chroma.specs.Chroma.{low, high}
 use Rattle.lossless.specs.Step.{Step}
 
 -- the slices of 6 and of 7; 8 and 10 are about the prediction or plane

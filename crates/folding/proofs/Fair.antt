@@ -10,6 +10,7 @@ use native.Mathlib.Omega.{arith}
 use borrow.Author.Tests.{le-leb}
 use lib.IntN.{ℤ, pos, negℤ, _+ℤ_, _-ℤ_, +ℤ-comm, +ℤ-idl}
 use lib.Signed.{_≤ℤ_}
+use Rattle.whole.specs.Sums.{item}
 use Rattle.answers.specs.Answers.{done}
 use Rattle.whole.specs.Numbers.{inRange, highest}
 use Rattle.whole.specs.Search.{seek}
@@ -19,7 +20,6 @@ use Rattle.whole.proofs.Order.{≤ℤ-trans, ≤ℤ-more, gap}
 use Rattle.whole.proofs.Range.{in-range-ends, ends-in-range}
 use Rattle.whole.proofs.Search.{seek-all}
 use Rattle.whole.proofs.Tests.{and-true}
-use Rattle.lossless.specs.Gains.{numbers}
 use Rattle.lossless.specs.Step.{spot, stepOf}
 use Rattle.remain.specs.Remaining.{Entry}
 use Rattle.keeping.specs.Steps.{stepIn, stepsIn}
@@ -62,12 +62,12 @@ join-fair extent p e (f ∷ ts) q r (more {q = a} t s) h = go (meets e f) (alike
         let k = ap (stepOf q) (sym (same-step extent e f o)) ∙ h in
         let g = summed (f .levels) (e .levels) in
         let d = e .mark .depth in
-        le-leb 16 (seek (λ k. inRange (negℤ (highest d)) (highest d) (numbers g k)) 0 16)
+        le-leb 16 (seek (λ k. inRange (negℤ (highest d)) (highest d) (item g k)) 0 16)
         (omega (
           arith,
-          seek-all (λ k. inRange (negℤ (highest d)) (highest d) (numbers g k)) 0 16
-              (λ j i. subst (λ (d : ℕ). inRange (negℤ (highest d)) (highest d) (numbers g j) ≡ true) (sym (o .depths))
-              (gap-in-range (highest (f .mark .depth)) (numbers a (spot w j)) (numbers g j)
+          seek-all (λ k. inRange (negℤ (highest d)) (highest d) (item g k)) 0 16
+              (λ j i. subst (λ (d : ℕ). inRange (negℤ (highest d)) (highest d) (item g j) ≡ true) (sym (o .depths))
+              (gap-in-range (highest (f .mark .depth)) (item a (spot w j)) (item g j)
               (first w a q r (f .levels) (e .levels) s k .1 .present j i) (good-last w a q r (f .levels) (e .levels) s k j i))),
         ))
 

@@ -15,6 +15,7 @@ use lib.Dec.{leb, ltb, lit≤}
 use lib.IntN.{ℤ, pos, negℤ, _+ℤ_}
 use lib.ListN.{length, set, length-set}
 use lib.Seq.{getD-set-same, getD-set-other, set-set, set-comm}
+use Rattle.whole.specs.Sums.{item}
 use Rattle.answers.specs.declared.Answer.{Answer}
 use Rattle.answers.specs.Answers.{done, refused, unless}
 use Rattle.answers.proofs.Verdicts.{passed}
@@ -25,7 +26,6 @@ use Rattle.whole.proofs.Tests.{both, and-true}
 use Rattle.wht.specs.Wht.{fwht, iwht}
 use Rattle.wht.specs.Calls.{Sixteen, numberOk}
 use Rattle.wht.proofs.Lists.{levels-bound}
-use Rattle.lossless.specs.Gains.{numbers}
 use Rattle.lossless.specs.Step as S
 use Rattle.remain.specs.Remaining.{mark, Entry, count, numberAt, word, levelsAt, entries, marks, numberBefore, putMark, putOn}
 use Rattle.remain.specs.Touch.{indexOf}
@@ -117,7 +117,7 @@ sum-levels : (d : ℕ) → d ≤ 12 → (v u : List ℤ) → sizes d (summed v u
 sum-levels d h v u e =
     let b = levels-bound {l = summed v u} (record {
       count = refl;
-      small = within-tab 65535 16 (λ k. numbers (iwht v) k +ℤ numbers (iwht u) k) (λ k i. N.le-trans (sum-small d h (λ k. numbers (iwht v) k +ℤ numbers (iwht u) k) e k i) (lit≤ tt));
+      small = within-tab 65535 16 (λ k. item (iwht v) k +ℤ item (iwht u) k) (λ k i. N.le-trans (sum-small d h (λ k. item (iwht v) k +ℤ item (iwht u) k) e k i) (lit≤ tt));
     }) in
     record { count = b .count; small = λ k i. N.le-trans (b .small k i) (lit≤ tt) }
 
@@ -163,7 +163,7 @@ all-in v h =
     le-leb 16 (firstOff v) (omega (
       arith,
       seek-all (numberOk (negℤ (pos 262144)) (pos 262144) v) 0 16
-          (λ k i. size-in-range 262143 (numbers v k) (h .small k (subst (λ (n : ℕ). k < n) (sym (h .count)) i))),
+          (λ k i. size-in-range 262143 (item v k) (h .small k (subst (λ (n : ℕ). k < n) (sym (h .count)) i))),
     ))
 
 -- ---- a history in range

@@ -15,12 +15,11 @@ use borrow.Author.Tests.{eqb-true, eqb-false, eq-eqb, ne-eqb}
 use lib.Dec.{eqb}
 use lib.IntN.{ℤ, pos, natAbs, _+ℤ_, +ℤ-idl}
 use lib.ListN.{length}
-use Rattle.whole.specs.Sums.{tab}
+use Rattle.whole.specs.Sums.{tab, item}
 use Rattle.whole.proofs.Fill.{tab-same, tab-at, tab-list, within-tab}
 use Rattle.wht.specs.Wht.{fwht, iwht}
 use Rattle.wht.specs.Calls.{Sixteen}
 use Rattle.wht.proofs.Inverse.{iwht-fwht, fwht-iwht, iwht-length}
-use Rattle.lossless.specs.Gains.{numbers}
 use Rattle.remain.specs.Remaining.{Entry, markAt, levelsAt, last}
 use Rattle.remain.proofs.Finds.{last-most}
 use Rattle.folding.specs.Fold.{nothing, just, meets, alike, isZero, sizes, summed, merged, behind, joins, joinFair}
@@ -32,12 +31,12 @@ total-same : (w w′ : ℕ → ℕ) (l l′ : List ℤ) (h n : ℕ) → ((j : �
 unfolding total
 total-same w w′ l l′ h zero f g k = refl
 total-same w w′ l l′ h (suc n) f g k =
-    ap (λ b. cond b (total w′ l′ h n k +ℤ numbers (iwht (levelsAt l′ n)) k) (total w′ l′ h n k)) (f n (N.le-refl (suc n)))
+    ap (λ b. cond b (total w′ l′ h n k +ℤ item (iwht (levelsAt l′ n)) k) (total w′ l′ h n k)) (f n (N.le-refl (suc n)))
     ∙ go (eqb (w n) h) refl (total-same w w′ l l′ h n (λ j i. f j (omega arith)) (λ j i. g j (omega arith)) k)
   where
     go : (b : Bool) → eqb (w n) h ≡ b → total w′ l′ h n k ≡ total w l h n k
-        → cond b (total w′ l′ h n k +ℤ numbers (iwht (levelsAt l′ n)) k) (total w′ l′ h n k) ≡ cond b (total w l h n k +ℤ numbers (iwht (levelsAt l n)) k) (total w l h n k)
-    go true e r = λ i. r i +ℤ numbers (iwht (g n (N.le-refl (suc n)) (eqb-true (w n) h e) i)) k
+        → cond b (total w′ l′ h n k +ℤ item (iwht (levelsAt l′ n)) k) (total w′ l′ h n k) ≡ cond b (total w l h n k +ℤ item (iwht (levelsAt l n)) k) (total w l h n k)
+    go true e r = λ i. r i +ℤ item (iwht (g n (N.le-refl (suc n)) (eqb-true (w n) h e) i)) k
     go false e r = r
 
 pub total-by : (w w′ : ℕ → ℕ) (l l′ : List ℤ) (h n : ℕ) → ((j : ℕ) → j < n → eqb (w′ j) h ≡ eqb (w j) h) → ((j : ℕ) → j < n → w j ≡ h → levelsAt l′ j ≡ levelsAt l j)
@@ -48,17 +47,17 @@ pub total-none : (w : ℕ → ℕ) (l : List ℤ) (h n : ℕ) → ((j : ℕ) →
 unfolding total
 total-none w l h zero f k = refl
 total-none w l h (suc n) f k =
-    ap (λ b. cond b (total w l h n k +ℤ numbers (iwht (levelsAt l n)) k) (total w l h n k)) (ne-eqb (w n) h (f n (N.le-refl (suc n))))
+    ap (λ b. cond b (total w l h n k +ℤ item (iwht (levelsAt l n)) k) (total w l h n k)) (ne-eqb (w n) h (f n (N.le-refl (suc n))))
     ∙ total-none w l h n (λ j i. f j (omega arith)) k
 
 -- one more step that went there, or elsewhere
-pub total-more : (w : ℕ → ℕ) (l : List ℤ) (h n k : ℕ) → w n ≡ h → total w l h (suc n) k ≡ total w l h n k +ℤ numbers (iwht (levelsAt l n)) k
+pub total-more : (w : ℕ → ℕ) (l : List ℤ) (h n k : ℕ) → w n ≡ h → total w l h (suc n) k ≡ total w l h n k +ℤ item (iwht (levelsAt l n)) k
 unfolding total
-total-more w l h n k e = ap (λ b. cond b (total w l h n k +ℤ numbers (iwht (levelsAt l n)) k) (total w l h n k)) (eq-eqb (w n) h e)
+total-more w l h n k e = ap (λ b. cond b (total w l h n k +ℤ item (iwht (levelsAt l n)) k) (total w l h n k)) (eq-eqb (w n) h e)
 
 pub total-past : (w : ℕ → ℕ) (l : List ℤ) (h n k : ℕ) → (w n ≡ h → ⊥) → total w l h (suc n) k ≡ total w l h n k
 unfolding total
-total-past w l h n k e = ap (λ b. cond b (total w l h n k +ℤ numbers (iwht (levelsAt l n)) k) (total w l h n k)) (ne-eqb (w n) h e)
+total-past w l h n k e = ap (λ b. cond b (total w l h n k +ℤ item (iwht (levelsAt l n)) k) (total w l h n k)) (ne-eqb (w n) h e)
 
 -- ---- the folded list
 pub groups-same : (w w′ : ℕ → ℕ) (s : List ℕ) (l : List ℤ) (n n′ m : ℕ) → ((j : ℕ) → j < m → eqb (w′ j) j ≡ eqb (w j) j) → ((j : ℕ) → j < m → w j ≡ j → (k : ℕ) → total w′ l j n′ k ≡ total w l j n k)
@@ -87,15 +86,15 @@ groups-past w s l n m e = ap (λ b. cond b (groupAt w s l n m ∷ groups w s l n
 
 -- ---- a step and its partner
 -- the sum of a group's levels and others
-pub group-sum : (w : ℕ → ℕ) (l : List ℤ) (n h : ℕ) (v : List ℤ) → summed (fwht (sumOf w l n h)) v ≡ tab 16 (λ k. total w l h n k +ℤ numbers (iwht v) k)
+pub group-sum : (w : ℕ → ℕ) (l : List ℤ) (n h : ℕ) (v : List ℤ) → summed (fwht (sumOf w l n h)) v ≡ tab 16 (λ k. total w l h n k +ℤ item (iwht v) k)
 group-sum w l n h v =
-    tab-same 16 (λ k. numbers (iwht (fwht (sumOf w l n h))) k +ℤ numbers (iwht v) k) (λ k. total w l h n k +ℤ numbers (iwht v) k)
-    (λ k i. ap (λ z. z +ℤ numbers (iwht v) k) (ap (λ (t : List ℤ). numbers t k) (iwht-fwht (sumOf w l n h) refl) ∙ tab-at (pos 0) 16 (total w l h n) k i))
+    tab-same 16 (λ k. item (iwht (fwht (sumOf w l n h))) k +ℤ item (iwht v) k) (λ k. total w l h n k +ℤ item (iwht v) k)
+    (λ k i. ap (λ z. z +ℤ item (iwht v) k) (ap (λ (t : List ℤ). item t k) (iwht-fwht (sumOf w l n h) refl) ∙ tab-at (pos 0) 16 (total w l h n) k i))
 
-pub entry-back : (v : List ℤ) → length v ≡ 16 → fwht (tab 16 (λ k. pos 0 +ℤ numbers (iwht v) k)) ≡ v
+pub entry-back : (v : List ℤ) → length v ≡ 16 → fwht (tab 16 (λ k. pos 0 +ℤ item (iwht v) k)) ≡ v
 entry-back v h =
-    ap fwht (tab-same 16 (λ k. pos 0 +ℤ numbers (iwht v) k) (numbers (iwht v)) (λ k i. +ℤ-idl (numbers (iwht v) k))
-    ∙ ap (λ n. tab n (numbers (iwht v))) (sym (iwht-length v)) ∙ tab-list (pos 0) (iwht v))
+    ap fwht (tab-same 16 (λ k. pos 0 +ℤ item (iwht v) k) (item (iwht v)) (λ k i. +ℤ-idl (item (iwht v) k))
+    ∙ ap (λ n. tab n (item (iwht v))) (sym (iwht-length v)) ∙ tab-list (pos 0) (iwht v))
     ∙ fwht-iwht v h
 
 module _ (w : ℕ → ℕ) (s : List ℕ) (l : List ℤ) (n : ℕ) (e : Entry) where
@@ -132,7 +131,7 @@ module _ (w : ℕ → ℕ) (s : List ℕ) (l : List ℤ) (n : ℕ) (e : Entry) w
   -- e's partner is step h. In w′ and n′ the others are as they were, and h has the sum, or is gone
   module _ (h : ℕ) (same : alike e (groupAt w s l n h) ≡ true) where
     abbrev sum : List ℤ
-    sum = tab 16 (λ k. total w l h n k +ℤ numbers (iwht (e .levels)) k)
+    sum = tab 16 (λ k. total w l h n k +ℤ item (iwht (e .levels)) k)
 
     pub fair-by : (m : ℕ) → last test m ≡ suc h → joinFair e (groups w s l n m) ≡ sizes (e .mark .depth) sum
     unfolding groups joinFair last
@@ -151,7 +150,7 @@ module _ (w : ℕ → ℕ) (s : List ℕ) (l : List ℤ) (n : ℕ) (e : Entry) w
 
     module _ (w′ : ℕ → ℕ) (n′ : ℕ) (heads : (j : ℕ) → j < n → (j ≡ h → ⊥) → eqb (w′ j) j ≡ eqb (w j) j)
         (others : (j : ℕ) → j < n → (j ≡ h → ⊥) → w j ≡ j → (k : ℕ) → total w′ l j n′ k ≡ total w l j n k)
-        (stays : isZero sum ≡ false → (w′ h ≡ h) × ((k : ℕ) → total w′ l h n′ k ≡ total w l h n k +ℤ numbers (iwht (e .levels)) k))
+        (stays : isZero sum ≡ false → (w′ h ≡ h) × ((k : ℕ) → total w′ l h n′ k ≡ total w l h n k +ℤ item (iwht (e .levels)) k))
         (goes : isZero sum ≡ true → w′ h ≡ h → ⊥) where
       at-h : h < n → merged e (groupAt w s l n h) (groups w s l n h) ≡ groups w′ s l n′ (suc h)
       at-h i =
@@ -166,7 +165,7 @@ module _ (w : ℕ → ℕ) (s : List ℕ) (l : List ℤ) (n : ℕ) (e : Entry) w
           go true q g = g ∙ sym (groups-past w′ s l n′ h (goes q))
           go false q g =
               let t = stays q in
-              let p = tab-same 16 (λ k. total w l h n k +ℤ numbers (iwht (e .levels)) k) (total w′ l h n′) (λ k i. sym (t .1 k)) in
+              let p = tab-same 16 (λ k. total w l h n k +ℤ item (iwht (e .levels)) k) (total w′ l h n′) (λ k i. sym (t .1 k)) in
               (λ i. record { mark = markAt s h; levels = fwht (p i) } ∷ g i) ∙ sym (groups-more w′ s l n′ h (t .0))
 
       pub here-by : (m : ℕ) → m ≤ n → last test m ≡ suc h → joins e (groups w s l n m) ≡ just (groups w′ s l n′ m)

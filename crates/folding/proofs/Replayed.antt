@@ -17,7 +17,7 @@ use lib.ListN.{length}
 use Rattle.answers.specs.declared.Answer.{Answer}
 use Rattle.answers.specs.Answers.{done}
 use Rattle.whole.specs.Numbers.{inRange}
-use Rattle.whole.specs.Sums.{Within}
+use Rattle.whole.specs.Sums.{Within, item}
 use Rattle.whole.proofs.Fill.{tab-at, within-tab}
 use Rattle.whole.proofs.Range.{in-range-size}
 use Rattle.whole.proofs.Search.{seek-passed}
@@ -25,7 +25,7 @@ use Rattle.whole.proofs.Size.{abs-sub}
 use Rattle.wht.specs.Wht.{fwht, iwht}
 use Rattle.wht.proofs.Inverse.{iwht-fwht, fwht-length}
 use Rattle.wht.proofs.Size.{fwht-size}
-use Rattle.lossless.specs.Gains.{numbers, addOn, gain, gained}
+use Rattle.lossless.specs.Gains.{addOn, gain, gained}
 use Rattle.lossless.specs.Step.{Where, Step, place, spot, sample, front, stepOf}
 use Rattle.lossless.specs.Wanted.{stepWith}
 use Rattle.lossless.proofs.Adding.{sample-size}
@@ -87,10 +87,10 @@ module _ (at : ℕ → ℕ) where
 -- ---- two steps on one block
 module _ (w : Where) (p q r l m : List ℤ) (e : stepOf p (stepWith w l) ≡ (done, q)) (f : stepOf q (stepWith w m) ≡ (done, r)) where
   abbrev g : ℕ → ℤ
-  g = numbers (iwht l)
+  g = item (iwht l)
 
   abbrev h : ℕ → ℤ
-  h = numbers (iwht m)
+  h = item (iwht m)
 
   pub first : (front (length p) (stepWith w l) .number ≡ 0) × Passes (sample (w .depth)) (spot w) p g
   first = was p q (stepWith w l) g e
@@ -101,24 +101,24 @@ module _ (w : Where) (p q r l m : List ℤ) (e : stepOf p (stepWith w l) ≡ (do
   args : Fine (length p) (stepWith w l)
   args = fine (length p) (stepWith w l) (first .0)
 
-  sum-is : (k : ℕ) → k < 16 → numbers (summed l m) k ≡ g k +ℤ h k
+  sum-is : (k : ℕ) → k < 16 → item (summed l m) k ≡ g k +ℤ h k
   sum-is k i = tab-at (pos 0) 16 (λ k. g k +ℤ h k) k i
 
   -- the last sample, by the first
-  last-is : (k : ℕ) → k < 16 → numbers p (spot w k) +ℤ numbers (summed l m) k ≡ numbers q (spot w k) +ℤ h k
+  last-is : (k : ℕ) → k < 16 → item p (spot w k) +ℤ item (summed l m) k ≡ item q (spot w k) +ℤ h k
   last-is k i =
-      ap (λ z. numbers p (spot w k) +ℤ z) (sum-is k i)
-      ∙ sym (+ℤ-assoc (numbers p (spot w k)) (g k) (h k))
-      ∙ ap (λ z. z +ℤ h k) (sym (at-spot (spot w) g p (lies args) k i) ∙ ap (λ (y : List ℤ). numbers y (spot w k)) (left p q (stepWith w l) g e))
+      ap (λ z. item p (spot w k) +ℤ z) (sum-is k i)
+      ∙ sym (+ℤ-assoc (item p (spot w k)) (g k) (h k))
+      ∙ ap (λ z. z +ℤ h k) (sym (at-spot (spot w) g p (lies args) k i) ∙ ap (λ (y : List ℤ). item y (spot w k)) (left p q (stepWith w l) g e))
 
-  pub good-last : (k : ℕ) → k < 16 → sample (w .depth) (numbers p (spot w k) +ℤ numbers (summed l m) k) ≡ true
+  pub good-last : (k : ℕ) → k < 16 → sample (w .depth) (item p (spot w k) +ℤ item (summed l m) k) ≡ true
   good-last k i = ap (sample (w .depth)) (last-is k i) ∙ second .1 .later k i
 
   -- a summed residual is the difference of two samples
-  pub sum-small : (k : ℕ) → k < 16 → natAbs (numbers (summed l m) k) ≤ 8190
+  pub sum-small : (k : ℕ) → k < 16 → natAbs (item (summed l m) k) ≤ 8190
   sum-small k i =
-      let y = numbers p (spot w k) in
-      let z = numbers (summed l m) k in
+      let y = item p (spot w k) in
+      let z = item (summed l m) k in
       let d = depth-is w (args .depths) .1 in
       omega (arith, ap natAbs (sym (+ℤ-negℤ-cancel z y) ∙ ap (λ v. v -ℤ y) (+ℤ-comm z y)), abs-sub (y +ℤ z) y, sample-size (w .depth) (y +ℤ z) d (good-last k i), sample-size (w .depth) y d (first .1 .present k i))
 
@@ -128,8 +128,8 @@ module _ (w : Where) (p q r l m : List ℤ) (e : stepOf p (stepWith w l) ≡ (do
   abbrev levels : List ℤ
   levels = fwht (summed l m)
 
-  back-is : (k : ℕ) → numbers (iwht levels) k ≡ numbers (summed l m) k
-  back-is k = ap (λ (t : List ℤ). numbers t k) (iwht-fwht (summed l m) refl)
+  back-is : (k : ℕ) → item (iwht levels) k ≡ item (summed l m) k
+  back-is k = ap (λ (t : List ℤ). item t k) (iwht-fwht (summed l m) refl)
 
   one-fine : Fine (length p) (stepWith w levels)
   one-fine =
@@ -143,11 +143,11 @@ module _ (w : Where) (p q r l m : List ℤ) (e : stepOf p (stepWith w l) ≡ (do
 
   pub two-are-one : stepOf p (stepWith w levels) ≡ (done, r)
   two-are-one =
-      taking (front (length p) (stepWith w levels)) (sample (w .depth)) (spot w) p (numbers (iwht levels))
+      taking (front (length p) (stepWith w levels)) (sample (w .depth)) (spot w) p (item (iwht levels))
       (ap (λ (a : Answer). a .number) (front-done (length p) (stepWith w levels) one-fine))
-      (record { present = first .1 .present; later = λ k i. ap (λ z. sample (w .depth) (numbers p (spot w k) +ℤ z)) (back-is k) ∙ good-last k i })
+      (record { present = first .1 .present; later = λ k i. ap (λ z. sample (w .depth) (item p (spot w k) +ℤ z)) (back-is k) ∙ good-last k i })
       ∙ ap (λ (y : List ℤ). (done, y))
-      (sym (gained-twice (spot w) g h (numbers (iwht levels)) p (λ k i. back-is k ∙ sum-is k i))
+      (sym (gained-twice (spot w) g h (item (iwht levels)) p (λ k i. back-is k ∙ sum-is k i))
       ∙ ap (gained (spot w) h) (left p q (stepWith w l) g e) ∙ left q r (stepWith w m) h f)
 
   no-number : (z : ℤ) → natAbs z ≤ 0 → z ≡ pos 0
@@ -157,11 +157,11 @@ module _ (w : Where) (p q r l m : List ℤ) (e : stepOf p (stepWith w l) ≡ (do
   pub two-are-none : isZero (summed l m) ≡ true → r ≡ p
   two-are-none z =
       sym (ap (gained (spot w) h) (left p q (stepWith w l) g e) ∙ left q r (stepWith w m) h f)
-      ∙ gained-twice (spot w) g h (numbers (summed l m)) p sum-is
-      ∙ gained-none (spot w) (numbers (summed l m)) p
-      (λ k i. no-number (numbers (summed l m) k)
-      (in-range-size 0 (pos 0) (pos 0) (numbers (summed l m) k) (lit≤ tt) (lit≤ tt)
-      (seek-passed (λ k. inRange (pos 0) (pos 0) (numbers (summed l m) k)) 16 (leb-true 16 _ z) k i)))
+      ∙ gained-twice (spot w) g h (item (summed l m)) p sum-is
+      ∙ gained-none (spot w) (item (summed l m)) p
+      (λ k i. no-number (item (summed l m) k)
+      (in-range-size 0 (pos 0) (pos 0) (item (summed l m) k) (lit≤ tt) (lit≤ tt)
+      (seek-passed (λ k. inRange (pos 0) (pos 0) (item (summed l m) k)) 16 (leb-true 16 _ z) k i)))
 
 -- ---- a step and its partner
 -- two neighbours that share no sample, exchanged
@@ -175,7 +175,7 @@ neighbours p q r s t n e f = opened (steps-exchange p r [] [] s t n (more (more 
 pub column-fits : (p q : List ℤ) (extent : Area) (e : Entry) → stepOf p (stepIn extent e) ≡ (done, q) → e .mark .column + 4 ≤ extent .stride
 column-fits p q extent e h =
     let w = stepIn extent e .at in
-    let f = fine (length p) (stepIn extent e) (was p q (stepIn extent e) (numbers (iwht (e .levels))) h .0) in
+    let f = fine (length p) (stepIn extent e) (was p q (stepIn extent e) (item (iwht (e .levels))) h .0) in
     N.le-trans (column-is w (length p) (f .fit)) (width-is w (f .visible) .1)
 
 -- a step on the block of another is that step with other levels

@@ -18,14 +18,13 @@ use lib.ListN.{length, set, length-set}
 use lib.Pow.{pow-mono}
 use lib.Seq.{getD-set-same, getD-set-other}
 use Rattle.whole.specs.Numbers.{inRange, highest}
-use Rattle.whole.specs.Sums.{tab}
+use Rattle.whole.specs.Sums.{tab, item}
 use Rattle.whole.proofs.Fill.{tab-same, tab-at}
 use Rattle.whole.proofs.Range.{in-range-size}
 use Rattle.whole.proofs.Search.{seek-passed}
 use Rattle.whole.proofs.Size.{abs-neg}
 use Rattle.wht.specs.Wht.{fwht, iwht}
 use Rattle.wht.proofs.Size.{iwht-size}
-use Rattle.lossless.specs.Gains.{numbers}
 use Rattle.remain.specs.Remaining.{Entry, word, markAt, levelsAt, entryAt, entries, last}
 use Rattle.remain.specs.Touch.{touches}
 use Rattle.folding.specs.Fold.{Perhaps, nothing, just, isZero, sizes, joins, joinFair}
@@ -60,8 +59,8 @@ sum-small d h f e k i =
     let a : natAbs (highest d) ≤ 4095 = omega arith in
     let b : natAbs (negℤ (highest d)) ≤ 4095 = N.le-trans (N.le-of-eq (abs-neg (highest d))) a in
     subst (λ (z : ℤ). natAbs z ≤ 4095) (tab-at (pos 0) 16 f k i)
-    (in-range-size 4095 (negℤ (highest d)) (highest d) (numbers (tab 16 f) k) b a
-    (seek-passed (λ k. inRange (negℤ (highest d)) (highest d) (numbers (tab 16 f) k)) 16 (leb-true 16 _ e) k i))
+    (in-range-size 4095 (negℤ (highest d)) (highest d) (item (tab 16 f) k) b a
+    (seek-passed (λ k. inRange (negℤ (highest d)) (highest d) (item (tab 16 f) k)) 16 (leb-true 16 _ e) k i))
 
 module _ (s : List ℕ) (l : List ℤ) (o : List ℕ) (i : ℕ) (q : Listed s l (suc i)) (p : Owned s l o i) (f : passFair (entries s l i) ≡ true) where
   abbrev e : Entry
@@ -81,7 +80,7 @@ module _ (s : List ℕ) (l : List ℤ) (o : List ℕ) (i : ℕ) (q : Listed s l 
   unfolding passFair
   fair-is b y = (λ t. f t && joinFair e (p .is t)) ∙ y
 
-  residual-small : (k : ℕ) → natAbs (numbers (iwht (levelsAt l i)) k) ≤ 1048576
+  residual-small : (k : ℕ) → natAbs (item (iwht (levelsAt l i)) k) ≤ 1048576
   residual-small k = iwht-size (levelsAt l i) (q .sixteen i (N.le-refl (suc i)) .small) k
 
   pub refused : (o′ : List ℕ) → length o′ ≡ 4096 → joinFair e G ≡ false → Placed s l o′ (suc i) false
@@ -104,12 +103,12 @@ module _ (s : List ℕ) (l : List ℤ) (o : List ℕ) (i : ℕ) (q : Listed s l 
     old-total : (h m : ℕ) → m ≤ i → (k : ℕ) → total (owner o₁) l h m k ≡ total (owner o) l h m k
     old-total h m a k = total-by (owner o) (owner o₁) l l h m (λ j b. ap (λ (x : ℕ). eqb x h) (at-j j (omega arith))) (λ j b c. refl) k
 
-    own-sum : (k : ℕ) → total (owner o₁) l i (suc i) k ≡ pos 0 +ℤ numbers (iwht (levelsAt l i)) k
-    own-sum k = total-more (owner o₁) l i i k at-i ∙ ap (λ z. z +ℤ numbers (iwht (levelsAt l i)) k) (total-none (owner o₁) l i i none-before k)
+    own-sum : (k : ℕ) → total (owner o₁) l i (suc i) k ≡ pos 0 +ℤ item (iwht (levelsAt l i)) k
+    own-sum k = total-more (owner o₁) l i i k at-i ∙ ap (λ z. z +ℤ item (iwht (levelsAt l i)) k) (total-none (owner o₁) l i i none-before k)
 
     part : (h : ℕ) → h < suc i → owner o₁ h ≡ h → (m k : ℕ) → m ≤ suc i → k < 16 → Dec (h ≡ i) → Dec (m ≡ suc i) → natAbs (total (owner o₁) l h m k) ≤ 1048576
     part h a b m k c d (yes x) (yes y) =
-        subst (λ (z : ℤ). natAbs z ≤ 1048576) (sym ((λ t. total (owner o₁) l (x t) (y t) k) ∙ own-sum k ∙ +ℤ-idl (numbers (iwht (levelsAt l i)) k))) (residual-small k)
+        subst (λ (z : ℤ). natAbs z ≤ 1048576) (sym ((λ t. total (owner o₁) l (x t) (y t) k) ∙ own-sum k ∙ +ℤ-idl (item (iwht (levelsAt l i)) k))) (residual-small k)
     part h a b m k c d (yes x) (no y) =
         subst (λ (z : ℤ). natAbs z ≤ 1048576) (sym (ap (λ (g : ℕ). total (owner o₁) l g m k) x ∙ total-none (owner o₁) l i m (λ j r. none-before j (omega arith)) k)) (lit≤ tt)
     part h a b m k c d (no x) (yes y) =
@@ -140,7 +139,7 @@ module _ (s : List ℕ) (l : List ℤ) (o : List ℕ) (i : ℕ) (q : Listed s l 
         low j a b (no x) = let u : j < i = omega arith in omega (arith, at-j j u, p .below j u (omega (arith, at-j j u)))
 
         back : levelsAt l i ≡ fwht (sumOf (owner o₁) l (suc i) i)
-        back = sym (ap fwht (tab-same 16 (total (owner o₁) l i (suc i)) (λ k. pos 0 +ℤ numbers (iwht (levelsAt l i)) k) (λ k _. own-sum k)) ∙ entry-back (levelsAt l i) (q .sixteen i (N.le-refl (suc i)) .count))
+        back = sym (ap fwht (tab-same 16 (total (owner o₁) l i (suc i)) (λ k. pos 0 +ℤ item (iwht (levelsAt l i)) k) (λ k _. own-sum k)) ∙ entry-back (levelsAt l i) (q .sixteen i (N.le-refl (suc i)) .count))
 
         before : G ≡ groups (owner o₁) s l (suc i) i
         before =
@@ -150,7 +149,7 @@ module _ (s : List ℕ) (l : List ℤ) (o : List ℕ) (i : ℕ) (q : Listed s l 
   -- ---- a partner
   module _ (h : ℕ) (less : h < i) (found : partner (owner o) s (word s i 2) (word s i 3) i ≡ suc h) (same : alikeAt s i h ≡ true) (head : owner o h ≡ h) where
     abbrev sum : List ℤ
-    sum = tab 16 (λ k. total (owner o) l h i k +ℤ numbers (iwht (levelsAt l i)) k)
+    sum = tab 16 (λ k. total (owner o) l h i k +ℤ item (iwht (levelsAt l i)) k)
 
     pub fair-here : joinFair e G ≡ sizes (word s i 1) sum
     fair-here = fair-by (owner o) s l i e h same i found
@@ -182,15 +181,15 @@ module _ (s : List ℕ) (l : List ℤ) (o : List ℕ) (i : ℕ) (q : Listed s l 
         own : (m : ℕ) → m ≤ i → (k : ℕ) → total (owner o₂) l h m k ≡ total (owner o) l h m k
         own m a k = total-by (owner o) (owner o₂) l l h m (λ j d. same-owner j (omega arith) (ℕ-discrete j h)) (λ j d y. refl) k
 
-        own-all : (k : ℕ) → total (owner o₂) l h (suc i) k ≡ total (owner o) l h i k +ℤ numbers (iwht (levelsAt l i)) k
-        own-all k = total-more (owner o₂) l h i k at-i₂ ∙ ap (λ y. y +ℤ numbers (iwht (levelsAt l i)) k) (own i (N.le-refl i) k)
+        own-all : (k : ℕ) → total (owner o₂) l h (suc i) k ≡ total (owner o) l h i k +ℤ item (iwht (levelsAt l i)) k
+        own-all k = total-more (owner o₂) l h i k at-i₂ ∙ ap (λ y. y +ℤ item (iwht (levelsAt l i)) k) (own i (N.le-refl i) k)
 
       part₂ : (g : ℕ) → g < suc i → owner o₂ g ≡ g → (m k : ℕ) → m ≤ suc i → k < 16 → Dec (g ≡ i) → Dec (g ≡ h) → Dec (m ≡ suc i) → (z : Bool) → isZero sum ≡ z → natAbs (total (owner o₂) l g m k) ≤ 1048576
       part₂ g a b m k c d (yes v) y x z w = absurd (omega (arith, subst (λ (n : ℕ). owner o₂ n ≡ n) v b, at-i₂))
       part₂ g a b m k c d (no v) (yes y) x true w = absurd (omega (arith, subst (λ (n : ℕ). owner o₂ n ≡ n) y b, gone w, few))
       part₂ g a b m k c d (no v) (yes y) (yes x) false w =
           subst (λ (n : ℤ). natAbs n ≤ 1048576) (sym ((λ t. total (owner o₂) l (y t) (x t) k) ∙ own-all w k))
-          (N.le-trans (sum-small (word s i 1) (q .deep i (N.le-refl (suc i))) (λ k. total (owner o) l h i k +ℤ numbers (iwht (levelsAt l i)) k) fair k d) (lit≤ tt))
+          (N.le-trans (sum-small (word s i 1) (q .deep i (N.le-refl (suc i))) (λ k. total (owner o) l h i k +ℤ item (iwht (levelsAt l i)) k) fair k d) (lit≤ tt))
       part₂ g a b m k c d (no v) (yes y) (no x) false w =
           let u : m ≤ i = omega arith in
           subst (λ (n : ℤ). natAbs n ≤ 1048576) (sym (ap (λ (n : ℕ). total (owner o₂) l n m k) y ∙ own w m u k)) (p .sums h less head .part m k u d)

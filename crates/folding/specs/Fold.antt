@@ -17,9 +17,8 @@ use Rattle.answers.specs.declared.Answer.{Answer}
 use Rattle.answers.specs.Answers.{done, refused, unless, ends}
 use Rattle.whole.specs.Numbers.{inRange, highest}
 use Rattle.whole.specs.Search.{seek}
-use Rattle.whole.specs.Sums.{tab}
+use Rattle.whole.specs.Sums.{tab, item}
 use Rattle.wht.specs.Wht.{fwht, iwht}
-use Rattle.lossless.specs.Gains.{numbers}
 use Rattle.remain.specs.Remaining.{mark, Entry, count, entries, marks, putMark, putOn}
 use Rattle.remain.specs.Touch.{shares, indexOf}
 use Rattle.keeping.specs.Range.{Area, kept}
@@ -36,13 +35,13 @@ alike e f = eqb (e .mark .depth) (f .mark .depth) && (eqb (e .mark .row) (f .mar
 
 -- the summed residuals of two lists of levels
 abbrev pub summed : List ℤ → List ℤ → List ℤ
-summed v u = tab 16 (λ k. numbers (iwht v) k +ℤ numbers (iwht u) k)
+summed v u = tab 16 (λ k. item (iwht v) k +ℤ item (iwht u) k)
 
 abbrev pub isZero : List ℤ → Bool
-isZero g = leb 16 (seek (λ k. inRange (pos 0) (pos 0) (numbers g k)) 0 16)
+isZero g = leb 16 (seek (λ k. inRange (pos 0) (pos 0) (item g k)) 0 16)
 
 abbrev pub sizes : ℕ → List ℤ → Bool
-sizes depth g = leb 16 (seek (λ k. inRange (negℤ (highest depth)) (highest depth) (numbers g k)) 0 16)
+sizes depth g = leb 16 (seek (λ k. inRange (negℤ (highest depth)) (highest depth) (item g k)) 0 16)
 
 -- ---- one pair
 -- f with e added to it, f the earlier one; nothing where they sum to zero

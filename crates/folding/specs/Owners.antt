@@ -16,10 +16,9 @@ use Prim.Native.Nat.{ℕ, zero, suc, _+_, _*_, _^_, _≤_, _<_}
 use lib.Dec.{eqb}
 use lib.IntN.{ℤ, pos, natAbs, _+ℤ_}
 use lib.ListN.{length, getD}
-use Rattle.whole.specs.Sums.{tab}
+use Rattle.whole.specs.Sums.{tab, item}
 use Rattle.wht.specs.Wht.{fwht, iwht}
 use Rattle.wht.specs.Calls.{Sixteen}
-use Rattle.lossless.specs.Gains.{numbers}
 use Rattle.remain.specs.Remaining.{Entry, mark, word, markAt, levelsAt, entries, last, putMark, putOn}
 use Rattle.remain.specs.Touch.{touches}
 use Rattle.folding.specs.Pass.{onePass, passFair}
@@ -29,7 +28,7 @@ owner o j = getD o j 0
 
 unfoldable pub total : (ℕ → ℕ) → List ℤ → ℕ → ℕ → ℕ → ℤ
 total w l h zero k = pos 0
-total w l h (suc j) k = cond (eqb (w j) h) (total w l h j k +ℤ numbers (iwht (levelsAt l j)) k) (total w l h j k)
+total w l h (suc j) k = cond (eqb (w j) h) (total w l h j k +ℤ item (iwht (levelsAt l j)) k) (total w l h j k)
 
 abbrev pub sumOf : (ℕ → ℕ) → List ℤ → ℕ → ℕ → List ℤ
 sumOf w l n h = tab 16 (total w l h n)

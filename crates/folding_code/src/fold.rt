@@ -5,10 +5,9 @@ ghost use Prim.Native.Nat.{suc, _+_, _*_, _^_, _≤_, _<_};
 ghost use lib.Dec.{eqb};
 ghost use lib.IntN.{pos, _+ℤ_};
 ghost use lib.ListN.{length, set};
-ghost use Rattle.whole.specs.Sums.{tab};
+ghost use Rattle.whole.specs.Sums.{tab, item};
 ghost use Rattle.wht.specs.Wht.{fwht, iwht};
 ghost use Rattle.wht.specs.Calls.{Sixteen};
-ghost use Rattle.lossless.specs.Gains.{numbers};
 ghost use Rattle.remain.specs.Remaining.{word as Remaining·word, mark, markAt, levelsAt, entries, putMark, putOn};
 ghost use Rattle.remain.specs.Touch.{touches};
 ghost use Rattle.folding.specs.Fold.{isZero, sizes, stepsFolded, levelsFolded};
@@ -30,7 +29,7 @@ fn owner(o: &[u16], j: usize) -> usize
 // The numbers of a, added to those of out.
 fn plus(a: &[i32], out: &mut [i32])
     requires { ⌜ Sixteen 1048576 (now a) × Sixteen 1048576 (now out) ⌝ }
-    ensures { λ _. ⌜ now (out .exit) ≡ tab 16 (λ k. numbers (now (out .entry)) k +ℤ numbers (now (a .entry)) k) ⌝ }
+    ensures { λ _. ⌜ now (out .exit) ≡ tab 16 (λ k. item (now (out .entry)) k +ℤ item (now (a .entry)) k) ⌝ }
 {
     let mut k = 0;
     while k < 16 {
@@ -43,7 +42,7 @@ fn plus(a: &[i32], out: &mut [i32])
 // The residuals of the levels v, added to out.
 fn add(v: &[i32], out: &mut [i32])
     requires { ⌜ Sixteen 262144 (now v) × Sixteen 1048576 (now out) ⌝ }
-    ensures { λ _. ⌜ now (out .exit) ≡ tab 16 (λ k. numbers (now (out .entry)) k +ℤ numbers (iwht (now (v .entry))) k) ⌝ }
+    ensures { λ _. ⌜ now (out .exit) ≡ tab 16 (λ k. item (now (out .entry)) k +ℤ item (iwht (now (v .entry))) k) ⌝ }
 {
     let mut more = [0i32; 16];
     wht::residuals(v, &mut more);
@@ -146,7 +145,7 @@ fn settle(i: usize, h: usize, gone: bool, o: &mut [u16])
 fn sum(l: &[i32], o: &[u16], i: usize, h: usize, out: &mut [i32])
     requires { ⌜ (i < 4096) × (length (now l) ≡ 65536) × (length (now o) ≡ 4096) × Sixteen 262144 (levelsAt (now l) i) ⌝ }
     requires { ⌜ Sums (Owners·owner (now o)) (now l) h i × (now out ≡ tab 16 (λ _. pos 0)) ⌝ }
-    ensures { λ _. ⌜ now (out .exit) ≡ tab 16 (λ k. total (Owners·owner (now (o .entry))) (now (l .entry)) h i k +ℤ numbers (iwht (levelsAt (now (l .entry)) i)) k) ⌝ }
+    ensures { λ _. ⌜ now (out .exit) ≡ tab 16 (λ k. total (Owners·owner (now (o .entry))) (now (l .entry)) h i k +ℤ item (iwht (levelsAt (now (l .entry)) i)) k) ⌝ }
 {
     gather(l, o, h, i, out);
     let a = 16 * i;

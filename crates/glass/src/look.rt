@@ -4,7 +4,7 @@ ghost use Prim.Native.Nat.{_+_, _*_, _≤_, _<_};
 ghost use lib.ListN.{length};
 ghost use Rattle.remain.specs.Remaining.{count};
 ghost use Rattle.remain.specs.Touch.{across};
-ghost use Rattle.screen.specs.Planes.{marked, Differ};
+ghost use Rattle.screen.specs.Planes.{Differ};
 ghost use Rattle.past.specs.Commands.{Seen};
 use events::picture;
 use events::say;

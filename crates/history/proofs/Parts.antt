@@ -10,11 +10,11 @@ use Prim.Native.Nat.{ℕ}
 use borrow.Author.Tests.{eq-eqb, ne-eqb, eqb-true, eqb-false}
 use lib.Dec.{eqb}
 use lib.IntN.{ℤ}
+use Rattle.whole.specs.Sums.{item}
 use Rattle.answers.specs.declared.Answer.{Answer}
 use Rattle.answers.specs.Answers.{done, unless, ends}
 use Rattle.answers.proofs.Endings.{ends-refused}
 use Rattle.answers.proofs.Verdicts.{opens, stops}
-use Rattle.lossless.specs.Gains.{numbers}
 use Rattle.lossless.specs.Step.{sample}
 use Rattle.lossless.proofs.Blocks.{passes, passed}
 use Rattle.remain.specs.Remaining.{Entry}
@@ -45,5 +45,5 @@ pub done-samples : (t : ℕ) (p : List ℤ) (e : Entry) → undoing t p e .numbe
 done-samples t p e h =
     let ok = sample (e .mark .depth) in
     let at = spots t (e .mark .row) (e .mark .column) in
-    let g = numbers (losses (e .levels)) in
+    let g = item (losses (e .levels)) in
     passed ok at p g (passes ok at p g h)

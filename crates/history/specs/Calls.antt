@@ -14,11 +14,12 @@ use Prim.Native.Nat.{ℕ, _+_, _*_, _-_}
 use lib.Dec.{ltb, eqb}
 use lib.IntN.{ℤ, negℤ}
 use lib.ListN.{length}
+use Rattle.whole.specs.Sums.{item}
 use Rattle.answers.specs.declared.Answer.{Answer}
 use Rattle.answers.specs.Answers.{done, refused, unless, ends}
 use Rattle.whole.specs.Search.{cellAt}
 use Rattle.wht.specs.Wht.{iwht}
-use Rattle.lossless.specs.Gains.{numbers, gained, samples}
+use Rattle.lossless.specs.Gains.{gained, samples}
 use Rattle.lossless.specs.Step.{sample}
 use Rattle.remain.specs.Remaining.{Entry, count, entryAt, marks, numberBefore, found, putOn, addedTo}
 use Rattle.remain.specs.Touch.{across, free, indexOf, mended}
@@ -47,7 +48,7 @@ room s = ltb (count s) 4096 && ltb (numberBefore s (count s)) 4294967295
 
 abbrev pub stepSamples : Area → ℕ → ℕ → ℕ → List ℤ → Lent → Answer
 stepSamples a d r c v m =
-    andThen (samples (sample d) (spots (a .stride) r c) (m .plane) (numbers (iwht v)))
+    andThen (samples (sample d) (spots (a .stride) r c) (m .plane) (item (iwht v)))
     (unless (room (m .steps)) (refused 14 0 0) done)
 
 abbrev pub stepVerdict : Area → ℕ → ℕ → ℕ → List ℤ → Lent → Answer
@@ -55,7 +56,7 @@ stepVerdict a d r c v m = andThen (frontOf a d r c v (m .steps) (m .levels) (len
 
 abbrev pub stepped : Area → ℕ → ℕ → ℕ → List ℤ → Lent → Lent
 stepped a d r c v m =
-    lent (gained (spots (a .stride) r c) (numbers (iwht v)) (m .plane))
+    lent (gained (spots (a .stride) r c) (item (iwht v)) (m .plane))
     (addedTo d r c (m .steps))
     (putOn (16 * count (m .steps)) v 16 (m .levels))
     (mended (across (a .width)) (marks (addedTo d r c (m .steps)) (count (m .steps) + 1)) r c (m .index))
@@ -68,13 +69,13 @@ abbrev pub losses : List ℤ → List ℤ
 losses v = map negℤ (iwht v)
 
 abbrev pub undoing : ℕ → List ℤ → Entry → Answer
-undoing t p e = samples (sample (e .mark .depth)) (spots t (e .mark .row) (e .mark .column)) p (numbers (losses (e .levels)))
+undoing t p e = samples (sample (e .mark .depth)) (spots t (e .mark .row) (e .mark .column)) p (item (losses (e .levels)))
 
 abbrev pub takenOut : Area → ℕ → Lent → Lent
 takenOut a i m =
     let e = entryAt (m .steps) (m .levels) i in
     let s = stepsWithout i (m .steps) in
-    lent (gained (spots (a .stride) (e .mark .row) (e .mark .column)) (numbers (losses (e .levels))) (m .plane))
+    lent (gained (spots (a .stride) (e .mark .row) (e .mark .column)) (item (losses (e .levels))) (m .plane))
     s
     (levelsWithout i (count (m .steps)) (m .levels))
     (mended (across (a .width)) (marks s (count (m .steps) - 1)) (e .mark .row) (e .mark .column) (m .index))

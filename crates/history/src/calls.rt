@@ -2,10 +2,11 @@
 ghost use mathlib.Core.Path.{_≡_};
 ghost use Prim.Native.Nat.{_+_, _*_, _-_, _≤_, _<_};
 ghost use lib.ListN.{length};
+ghost use Rattle.whole.specs.Sums.{item};
 ghost use Rattle.answers.specs.Answers.{done, refused, unless, ends};
 ghost use Rattle.whole.specs.Search.{cellAt};
 ghost use Rattle.wht.specs.Calls.{Sixteen};
-ghost use Rattle.lossless.specs.Gains.{numbers, samples};
+ghost use Rattle.lossless.specs.Gains.{samples};
 ghost use Rattle.lossless.specs.Step.{sample};
 ghost use Rattle.remain.specs.Remaining.{count, word, levelsAt, numberBefore, entryAt, marks, putOn, addedTo};
 ghost use Rattle.remain.specs.Touch.{across, mended};
@@ -43,7 +44,7 @@ fn judge(
     rest: Answer,
 ) -> Answer
     requires { ⌜ (depth ≤ 12) × (start + 3 * stride + 4 ≤ length (now plane)) × Sixteen 1048576 (now gains) ⌝ }
-    ensures { λ r. ⌜ r ≡ andThen (samples (sample depth) (cellAt start stride 4) (now (plane .entry)) (numbers (now (gains .entry)))) rest ⌝ }
+    ensures { λ r. ⌜ r ≡ andThen (samples (sample depth) (cellAt start stride 4) (now (plane .entry)) (item (now (gains .entry)))) rest ⌝ }
 {
     let a = lossless::block::judge(plane, gains, depth, start, stride);
     if a.number != 0 {

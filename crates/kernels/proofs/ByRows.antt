@@ -13,7 +13,7 @@ use native.Mathlib.Omega.{arith}
 use lib.Dec.{T, eqb, eqb→eq, ltb, ltb→lt}
 use lib.IntN.{ℤ, pos}
 use lib.ListN.{length, getD}
-use Rattle.whole.specs.Sums.{tab, dotZ, rowAt, dense, place}
+use Rattle.whole.specs.Sums.{tab, dotZ, rowAt, dense, flipped}
 use Rattle.whole.proofs.Tests.{and-left, and-right}
 use Rattle.whole.proofs.Fill.{length-tab, tab-at, tab-same}
 use Rattle.whole.proofs.Tables.{rowSize, rows-fit}
@@ -40,17 +40,17 @@ module _ (t xs : List ℤ) {l : List ℤ} (e : l ≡ dense (length xs) t xs) whe
   rows-long = ap length e ∙ length-tab (length xs) (λ i. dotZ (rowAt (length xs) t i) xs)
 
 pub turned-rows : (flip : Bool) (t xs : List ℤ) {l : List ℤ} → l ≡ dense (length xs) t xs
-    → tab (length l) (λ k. getD l (place flip (length l) k) (pos 0)) ≡ denseBy flip (length xs) t xs
+    → tab (length l) (λ k. getD l (flipped flip (length l) k) (pos 0)) ≡ denseBy flip (length xs) t xs
 turned-rows flip t xs {l} e =
-    ap (λ m. tab (length m) (λ k. getD m (place flip (length m) k) (pos 0))) e
-    ∙ ap (λ n. tab n (λ k. getD (dense (length xs) t xs) (place flip n k) (pos 0))) (rows-long t xs {l = dense (length xs) t xs} refl)
-    ∙ tab-same (length xs) (λ k. getD (dense (length xs) t xs) (place flip (length xs) k) (pos 0)) (λ k. row (place flip (length xs) k))
-    (λ k h. tab-at (pos 0) (length xs) row (place flip (length xs) k) (inside flip k h))
+    ap (λ m. tab (length m) (λ k. getD m (flipped flip (length m) k) (pos 0))) e
+    ∙ ap (λ n. tab n (λ k. getD (dense (length xs) t xs) (flipped flip n k) (pos 0))) (rows-long t xs {l = dense (length xs) t xs} refl)
+    ∙ tab-same (length xs) (λ k. getD (dense (length xs) t xs) (flipped flip (length xs) k) (pos 0)) (λ k. row (flipped flip (length xs) k))
+    (λ k h. tab-at (pos 0) (length xs) row (flipped flip (length xs) k) (inside flip k h))
   where
     row : ℕ → ℤ
     row i = dotZ (rowAt (length xs) t i) xs
 
-    inside : (f : Bool) (k : ℕ) → k < length xs → place f (length xs) k < length xs
+    inside : (f : Bool) (k : ℕ) → k < length xs → flipped f (length xs) k < length xs
     inside true k h = omega arith
     inside false k h = h
 

@@ -15,7 +15,7 @@ use mathlib.Core.Path.{_≡_, refl, sym, ap, _∙_, subst}
 use mathlib.Core.Bool.{Bool, _&&_}
 use mathlib.Core.Logic.{inl, inr}
 use mathlib.Core.List.{List, [], _∷_}
-use Prim.Native.Nat.{ℕ, zero, suc, _+_, _*_, _-_, _^_, _≤_, _<_, zero-le}
+use Prim.Native.Nat.{ℕ, zero, suc, _+_, _*_, _^_, _≤_, _<_, zero-le}
 use native.Mathlib.Nat as N
 use native.Mathlib.Numerals.{add-one}
 use native.Mathlib.Omega.{arith}
@@ -27,7 +27,7 @@ use lib.Seq.{getD-set-same, getD-set-other, getD-take}
 use mir.Syntax.{w32}
 use mir.Val.{SFits}
 use Rattle.whole.specs.Sums.{tab, dotZ, sizeOf, Within, termRow, termSize, foldAt, foldRow}
-use Rattle.whole.specs.Parts.{placeAt, joined, JoinRoom}
+use Rattle.whole.specs.Parts.{placeAt, JoinRoom}
 use Rattle.whole.proofs.Tests.{and-left, and-right, below, below-at}
 use Rattle.whole.proofs.Sums.{term-step, term-room, within-all}
 use Rattle.whole.proofs.Inward.{mirror}
@@ -36,7 +36,7 @@ use Rattle.whole.proofs.Lanes.{mac-mul, mac-add, mac-is, two-sum, two-diff, two
 use Rattle.whole.proofs.LaneTurns.{MulAdd}
 use Rattle.tables.specs.Dense.{firstOf}
 use Rattle.tables.proofs.First.{first-is}
-use Rattle.tables.proofs.LiveLanes.{Folding, fold-start, fold-more, fold-done}
+use Rattle.tables.proofs.LiveLanes.{Folding, fold-start, fold-more}
 use Rattle.lanes.specs.View.{lane, cols}
 use Rattle.lanes.specs.Flat.{lanesOf, flat, weight, oddRow, oddsOf, half2, half4, firstRow, Quarter, OddHalf}
 use Rattle.lanes.specs.declared.Lane.{Lane}

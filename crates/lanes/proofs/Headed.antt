@@ -5,11 +5,11 @@
 --     within-front                 the first numbers of a list within a bound
 use mathlib.Core.Path.{_≡_, sym, ap, _∙_, subst}
 use mathlib.Core.List.{List}
-use Prim.Native.Nat.{ℕ, _+_, _*_, _^_, _≤_, _<_}
+use Prim.Native.Nat.{ℕ, _^_, _≤_}
 use native.Mathlib.Nat as N
 use native.Mathlib.Omega.{arith}
 use lib.IntN.{ℤ, pos, natAbs, _+ℤ_, _-ℤ_, _*ℤ_}
-use lib.ListN.{length, getD, take, length-take}
+use lib.ListN.{length, take, length-take}
 use lib.Seq.{getD-take}
 use mir.Syntax.{w32}
 use mir.Val.{SFits}

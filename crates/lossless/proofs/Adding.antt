@@ -16,6 +16,7 @@ use lib.Pow.{pow-mono}
 use lib.ListN.{length-map, List·getD-map}
 use mir.Syntax.{w32}
 use mir.Val.{toZ, ofZ}
+use Rattle.whole.specs.Sums.{item}
 use Rattle.whole.specs.Numbers.{highest}
 use Rattle.whole.specs.Search.{cellAt}
 use Rattle.whole.proofs.Cells.{cell-inside}
@@ -25,7 +26,6 @@ use Rattle.whole.proofs.Size.{abs-neg}
 use Rattle.wht.specs.Calls.{Sixteen}
 use Rattle.wht.specs.Wht.{iwht}
 use Rattle.wht.proofs.Lists.{residuals-bound}
-use Rattle.lossless.specs.Gains.{numbers}
 use Rattle.lossless.specs.Step.{sample}
 use Rattle.lossless.specs.Bounds.{Addable, change}
 
@@ -40,11 +40,11 @@ sample-size depth z h e = in-range-size 4095 (pos 0) (highest depth) z (lit≤ t
 
 module _ {p : List ℤ} {start stride : ℕ} {g : List ℤ} (a : Addable p start stride g) (k : ℕ) (h : k < 16) where
   -- x is the sample as it was found
-  pub total : {x : ℤ} → x ≡ numbers p (cellAt start stride 4 k)
-      → Num (toZ w32 (ofZ w32 x) +ℤ toZ w32 (ofZ w32 (numbers g k))) (numbers p (cellAt start stride 4 k) +ℤ numbers g k) (4095 + 1048576)
+  pub total : {x : ℤ} → x ≡ item p (cellAt start stride 4 k)
+      → Num (toZ w32 (ofZ w32 x) +ℤ toZ w32 (ofZ w32 (item g k))) (item p (cellAt start stride 4 k) +ℤ item g k) (4095 + 1048576)
   total {x} e =
-      let b : Num (toZ w32 (ofZ w32 (numbers g k))) (numbers g k) 1048576 = made w32 (a .gains .small k (subst (λ (n : ℕ). k < n) (sym (a .gains .count)) h)) (lit< tt) in
-      rw e (plus (made w32 {z = numbers p (cellAt start stride 4 k)} (a .small k h) (lit< tt)) b)
+      let b : Num (toZ w32 (ofZ w32 (item g k))) (item g k) 1048576 = made w32 (a .gains .small k (subst (λ (n : ℕ). k < n) (sym (a .gains .count)) h)) (lit< tt) in
+      rw e (plus (made w32 {z = item p (cellAt start stride 4 k)} (a .small k h) (lit< tt)) b)
 
 pub change-size : (u : Bool) {l : List ℤ} → Sixteen 262144 l → Sixteen 1048576 (change u l)
 change-size false s = residuals-bound s
@@ -53,6 +53,6 @@ change-size true {l} s =
     record {
       count = length-map (iwht l) negℤ ∙ r .count;
       small = λ k h.
-          subst (λ (n : ℕ). n ≤ 1048576) (sym (ap natAbs (List·getD-map negℤ (iwht l) k (pos 0)) ∙ abs-neg (numbers (iwht l) k)))
+          subst (λ (n : ℕ). n ≤ 1048576) (sym (ap natAbs (List·getD-map negℤ (iwht l) k (pos 0)) ∙ abs-neg (item (iwht l) k)))
           (r .small k (subst (λ (n : ℕ). k < n) (length-map (iwht l) negℤ) h));
     }

@@ -12,6 +12,7 @@ use borrow.Author.Tests.{leb-true, eqb-true, eq-eqb}
 use lib.Dec.{leb, eqb, lit≤}
 use lib.IntN.{pos, negℤ}
 use lib.ListN.{length}
+use Rattle.whole.specs.Sums.{item}
 use Rattle.answers.specs.declared.Answer.{Answer}
 use Rattle.answers.specs.Answers.{done, refused, unless}
 use Rattle.answers.proofs.Verdicts.{passed, opens, stops, search-passed, search-opens}
@@ -22,7 +23,7 @@ use Rattle.whole.proofs.Search.{seek-all}
 use Rattle.whole.proofs.Tests.{both}
 use Rattle.wht.specs.Calls.{Sixteen, numberOk, outside}
 use Rattle.wht.proofs.Lists.{all-small}
-use Rattle.lossless.specs.Gains.{numbers, Lies}
+use Rattle.lossless.specs.Gains.{Lies}
 use Rattle.lossless.specs.Step.{Where, Step, spot, deep, strides, widths, fits, front}
 use Rattle.lossless.proofs.Adding.{cell-lies}
 
@@ -93,7 +94,7 @@ module _ (n : ℕ) (s : Step) where
       ∙ search-opens 7 1 16 (λ k. k) (seek (numberOk (negℤ (pos 262144)) (pos 262144) (s .levels)) 0 16) done (N.le-of-eq (sym (seek-all _ 0 16 good)))
     where
       good : (k : ℕ) → k < 16 → numberOk (negℤ (pos 262144)) (pos 262144) (s .levels) k ≡ true
-      good k h = size-in-range 262143 (numbers (s .levels) k) (f .levels .small k (subst (λ (m : ℕ). k < m) (sym (f .levels .count)) h))
+      good k h = size-in-range 262143 (item (s .levels) k) (f .levels .small k (subst (λ (m : ℕ). k < m) (sym (f .levels .count)) h))
 
 module _ (w : Where) where
   pub depth-is : deep w ≡ true → (8 ≤ w .depth) × (w .depth ≤ 12)

@@ -10,11 +10,12 @@ use Prim.Native.Nat.{ℕ, _<_}
 use native.Mathlib.Nat.{le-of-eq}
 use lib.IntN.{ℤ, pos, _+ℤ_, _-ℤ_, +ℤ-assoc, +ℤ-comm, +ℤ-idr, -ℤ-+ℤ-cancel, +ℤ-negℤ-cancel}
 use lib.ListN.{length}
+use Rattle.whole.specs.Sums.{item}
 use Rattle.answers.specs.Answers.{done}
 use Rattle.answers.proofs.Verdicts.{search-passed, search-opens}
 use Rattle.whole.specs.Search.{seek}
 use Rattle.whole.proofs.Search.{seek-passed, seek-all}
-use Rattle.lossless.specs.Gains.{numbers, gain, gained, presentOk, laterOk, leaves, samples, Lies}
+use Rattle.lossless.specs.Gains.{gain, gained, presentOk, laterOk, leaves, samples, Lies}
 use Rattle.lossless.proofs.Gains.{getD-addOn, addOn-same, addOn-back, gain-back, gain-none, gain-at}
 
 -- ---- from a sample x to a wanted one b
@@ -26,12 +27,12 @@ determined x b g e = sym (+ℤ-negℤ-cancel g x) ∙ ap (λ z. z -ℤ x) (+ℤ-
 
 -- ---- the plane afterwards
 module _ (at : ℕ → ℕ) (g : ℕ → ℤ) (p : List ℤ) where
-  pub at-spot : Lies at (length p) → (k : ℕ) → k < 16 → numbers (gained at g p) (at k) ≡ numbers p (at k) +ℤ g k
+  pub at-spot : Lies at (length p) → (k : ℕ) → k < 16 → item (gained at g p) (at k) ≡ item p (at k) +ℤ g k
   at-spot l k h =
       getD-addOn (gain at g 16) p (at k) (l .inside k h)
-      ∙ ap (λ z. numbers p (at k) +ℤ z) (gain-at at g 16 k (λ j i. l .apart j k i h) h)
+      ∙ ap (λ z. item p (at k) +ℤ z) (gain-at at g 16 k (λ j i. l .apart j k i h) h)
 
-  pub elsewhere : (i : ℕ) → ((k : ℕ) → k < 16 → at k ≡ i → ⊥) → numbers (gained at g p) i ≡ numbers p i
+  pub elsewhere : (i : ℕ) → ((k : ℕ) → k < 16 → at k ≡ i → ⊥) → item (gained at g p) i ≡ item p i
   elsewhere i other = addOn-same (gain at g 16) p i (gain-none at g 16 i other)
 
   pub then-back : (h : ℕ → ℤ) → ((k : ℕ) → g k +ℤ h k ≡ pos 0) → gained at h (gained at g p) ≡ p
@@ -61,6 +62,6 @@ then-passes {ok} {at} {p} {g} t l h e =
       present = λ k i. ap ok (at-spot at g p l k i) ∙ t .later k i;
       later = λ k i.
           ap (λ z. ok (z +ℤ h k)) (at-spot at g p l k i)
-          ∙ ap ok (+ℤ-assoc (numbers p (at k)) (g k) (h k) ∙ ap (λ z. numbers p (at k) +ℤ z) (e k) ∙ +ℤ-idr (numbers p (at k)))
+          ∙ ap ok (+ℤ-assoc (item p (at k)) (g k) (h k) ∙ ap (λ z. item p (at k) +ℤ z) (e k) ∙ +ℤ-idr (item p (at k)))
           ∙ t .present k i;
     }

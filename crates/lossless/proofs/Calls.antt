@@ -14,11 +14,12 @@ use borrow.Author.Tests.{eqb-true, eqb-false, eq-eqb, ne-eqb}
 use lib.Dec.{eqb}
 use lib.IntN.{ℤ, pos, _+ℤ_}
 use lib.ListN.{length}
+use Rattle.whole.specs.Sums.{item}
 use Rattle.answers.specs.declared.Answer.{Answer}
 use Rattle.answers.specs.Answers.{done, unless, ends}
 use Rattle.answers.proofs.Endings.{ends-refused}
 use Rattle.answers.proofs.Verdicts.{opens, stops, left}
-use Rattle.lossless.specs.Gains.{numbers, gain, gained, samples, judged, gaining, Lies}
+use Rattle.lossless.specs.Gains.{gain, gained, samples, judged, gaining, Lies}
 use Rattle.lossless.proofs.Gains.{length-addOn}
 use Rattle.lossless.proofs.Blocks.{Passes, passes, passed, at-spot, elsewhere, then-passes, then-back}
 
@@ -64,14 +65,14 @@ module _ (f : Answer) (ok : ℤ → Bool) (at : ℕ → ℕ) (p : List ℤ) (g :
   pub same-length : length (gaining f ok at p g .1) ≡ length p
   same-length = either (λ q. length q ≡ length p) refl (length-addOn (gain at g 16) p)
 
-  pub same-elsewhere : (i : ℕ) → ((k : ℕ) → k < 16 → at k ≡ i → ⊥) → numbers (gaining f ok at p g .1) i ≡ numbers p i
-  same-elsewhere i other = either (λ q. numbers q i ≡ numbers p i) refl (elsewhere at g p i other)
+  pub same-elsewhere : (i : ℕ) → ((k : ℕ) → k < 16 → at k ≡ i → ⊥) → item (gaining f ok at p g .1) i ≡ item p i
+  same-elsewhere i other = either (λ q. item q i ≡ item p i) refl (elsewhere at g p i other)
 
   pub taken : gaining f ok at p g .0 .number ≡ 0 → gaining f ok at p g ≡ (done, after)
   taken e = let a = accepted e in taking (a .0) (a .1)
 
-  pub taken-at : Lies at (length p) → gaining f ok at p g .0 .number ≡ 0 → (k : ℕ) → k < 16 → numbers (gaining f ok at p g .1) (at k) ≡ numbers p (at k) +ℤ g k
-  taken-at l e k h = ap (λ x. numbers (x .1) (at k)) (taken e) ∙ at-spot at g p l k h
+  pub taken-at : Lies at (length p) → gaining f ok at p g .0 .number ≡ 0 → (k : ℕ) → k < 16 → item (gaining f ok at p g .1) (at k) ≡ item p (at k) +ℤ g k
+  taken-at l e k h = ap (λ x. item (x .1) (at k)) (taken e) ∙ at-spot at g p l k h
 
 -- f and f′ are the answers by the arguments of the two calls, g and h their opposite numbers
 module _ (f f′ : Answer) (ok : ℤ → Bool) (at : ℕ → ℕ) (p : List ℤ) (g h : ℕ → ℤ) (o : (k : ℕ) → g k +ℤ h k ≡ pos 0) where

@@ -16,21 +16,22 @@ use lib.Dec.{eqb}
 use lib.IntN.{ℤ, pos, _+ℤ_, +ℤ-assoc, +ℤ-comm, +ℤ-idr}
 use lib.ListN.{length, set, length-set}
 use lib.Seq.{ext-getD, getD-set-same, getD-set-other}
-use Rattle.lossless.specs.Gains.{numbers, addOn, gain}
+use Rattle.whole.specs.Sums.{item}
+use Rattle.lossless.specs.Gains.{addOn, gain}
 
 pub length-addOn : (f : ℕ → ℤ) (p : List ℤ) → length (addOn f p) ≡ length p
 unfolding addOn
 length-addOn f [] = refl
 length-addOn f (x ∷ p) = ap suc (length-addOn (λ i. f (suc i)) p)
 
-pub getD-addOn : (f : ℕ → ℤ) (p : List ℤ) (i : ℕ) → i < length p → numbers (addOn f p) i ≡ numbers p i +ℤ f i
+pub getD-addOn : (f : ℕ → ℤ) (p : List ℤ) (i : ℕ) → i < length p → item (addOn f p) i ≡ item p i +ℤ f i
 unfolding addOn
 getD-addOn f [] i h = absurd (not-suc-le-zero h)
 getD-addOn f (x ∷ p) zero h = refl
 getD-addOn f (x ∷ p) (suc i) h = getD-addOn (λ j. f (suc j)) p i (omega arith)
 
 -- past the end too
-pub addOn-same : (f : ℕ → ℤ) (p : List ℤ) (i : ℕ) → f i ≡ pos 0 → numbers (addOn f p) i ≡ numbers p i
+pub addOn-same : (f : ℕ → ℤ) (p : List ℤ) (i : ℕ) → f i ≡ pos 0 → item (addOn f p) i ≡ item p i
 unfolding addOn
 addOn-same f [] i e = refl
 addOn-same f (x ∷ p) zero e = ap (λ z. x +ℤ z) e ∙ +ℤ-idr x
@@ -83,10 +84,10 @@ module _ (at : ℕ → ℕ) where
 
   -- ---- a loop that has added the first n numbers to the plane p, and comes to an index that is none of theirs
   module _ (g : ℕ → ℤ) (n : ℕ) (p : List ℤ) (fresh : (k : ℕ) → k < n → at k ≡ at n → ⊥) where
-    pub still : numbers (addOn (gain at g n) p) (at n) ≡ numbers p (at n)
+    pub still : item (addOn (gain at g n) p) (at n) ≡ item p (at n)
     still = addOn-same (gain at g n) p (at n) (gain-none g n (at n) fresh)
 
-    pub addOn-next : at n < length p → {x : ℤ} → x ≡ numbers p (at n) +ℤ g n → set (addOn (gain at g n) p) (at n) x ≡ addOn (gain at g (n + 1)) p
+    pub addOn-next : at n < length p → {x : ℤ} → x ≡ item p (at n) +ℤ g n → set (addOn (gain at g n) p) (at n) x ≡ addOn (gain at g (n + 1)) p
     unfolding gain
     addOn-next h {x} e =
         rw (add-one n)
@@ -96,12 +97,12 @@ module _ (at : ℕ → ℕ) where
         long : length (set (addOn (gain at g n) p) (at n) x) ≡ length p
         long = length-set (addOn (gain at g n) p) (at n) x ∙ length-addOn (gain at g n) p
 
-        by-index : (i : ℕ) → i < length p → Dec (i ≡ at n) → numbers (set (addOn (gain at g n) p) (at n) x) i ≡ numbers (addOn (gain at g (suc n)) p) i
+        by-index : (i : ℕ) → i < length p → Dec (i ≡ at n) → item (set (addOn (gain at g n) p) (at n) x) i ≡ item (addOn (gain at g (suc n)) p) i
         by-index i l (yes q) =
-            ap (λ (j : ℕ). numbers (set (addOn (gain at g n) p) (at n) x) j) q
+            ap (λ (j : ℕ). item (set (addOn (gain at g n) p) (at n) x) j) q
             ∙ getD-set-same (addOn (gain at g n) p) (at n) x (pos 0) (subst (λ (m : ℕ). at n < m) (sym (length-addOn (gain at g n) p)) h)
             ∙ e
-            ∙ sym (ap (λ (j : ℕ). numbers (addOn (gain at g (suc n)) p) j) q ∙ getD-addOn (gain at g (suc n)) p (at n) h ∙ rw (eq-eqb (at n) (at n) refl))
+            ∙ sym (ap (λ (j : ℕ). item (addOn (gain at g (suc n)) p) j) q ∙ getD-addOn (gain at g (suc n)) p (at n) h ∙ rw (eq-eqb (at n) (at n) refl))
         by-index i l (no q) =
             getD-set-other (addOn (gain at g n) p) (at n) i x (pos 0) q ∙ getD-addOn (gain at g n) p i l
             ∙ sym (getD-addOn (gain at g (suc n)) p i l ∙ rw (ne-eqb (at n) i (λ r. q (sym r))))

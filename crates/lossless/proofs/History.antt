@@ -11,10 +11,10 @@ use borrow.Author.Tests.{eqb-true, eqb-false}
 use lib.Dec.{eqb}
 use lib.IntN.{ℤ}
 use lib.ListN.{length}
+use Rattle.whole.specs.Sums.{item}
 use Rattle.answers.specs.declared.Answer.{Answer}
 use Rattle.answers.specs.Answers.{done}
 use Rattle.wht.specs.Wht.{iwht}
-use Rattle.lossless.specs.Gains.{numbers}
 use Rattle.lossless.specs.Step.{Step, spot, sample, front, stepOf, undoOf}
 use Rattle.lossless.specs.History.{keep, after, trail, newest, found, Undoes, none, next}
 use Rattle.lossless.proofs.Calls.{refused-is}
@@ -47,4 +47,4 @@ module _
 
 pub history : (p : List ℤ) (ts : List Step) (k : ℕ) → k ≤ length (trail stepOf p ts)
     → Undoes undoOf (after stepOf p ts) (newest k (trail stepOf p ts)) (found (after stepOf p ts) (trail stepOf p ts) k)
-history = back stepOf undoOf (λ p s. refused-is (front (length p) s) (sample (s .at .depth)) (spot (s .at)) p (numbers (iwht (s .levels)))) undo-exact
+history = back stepOf undoOf (λ p s. refused-is (front (length p) s) (sample (s .at .depth)) (spot (s .at)) p (item (iwht (s .levels)))) undo-exact

@@ -11,9 +11,9 @@ use native.Mathlib.Decide.{ℕ-discrete}
 use native.Mathlib.Omega.{arith}
 use lib.IntN.{ℤ, negℤ}
 use lib.ListN.{length}
+use Rattle.whole.specs.Sums.{item}
 use Rattle.whole.proofs.Cells.{cell-column}
 use Rattle.wht.specs.Wht.{iwht}
-use Rattle.lossless.specs.Gains.{numbers}
 use Rattle.lossless.specs.Step.{Step, spot, sample, front, gainOf, stepOf, undoOf}
 use Rattle.lossless.specs.History.{after}
 use Rattle.lossless.specs.Pad.{InPad, Call, callOf, InPads, none, more}
@@ -32,27 +32,27 @@ pad-apart {n} {s} f i h k l e =
     omega (arith, h, inside, at)
 
 module _ (p : List ℤ) (s : Step) (i : ℕ) (h : InPad (s .at) i) where
-  pad-gain : (g : ℕ → ℤ) → numbers (gainOf p s g .1) i ≡ numbers p i
+  pad-gain : (g : ℕ → ℤ) → item (gainOf p s g .1) i ≡ item p i
   pad-gain g = by-answer (ℕ-discrete (gainOf p s g .0 .number) 0)
     where
-      by-answer : Dec (gainOf p s g .0 .number ≡ 0) → numbers (gainOf p s g .1) i ≡ numbers p i
+      by-answer : Dec (gainOf p s g .0 .number ≡ 0) → item (gainOf p s g .1) i ≡ item p i
       by-answer (yes e) = same-elsewhere (front (length p) s) (sample (s .at .depth)) (spot (s .at)) p g i (pad-apart (fine (length p) s (accepted (front (length p) s) (sample (s .at .depth)) (spot (s .at)) p g e .0)) i h)
-      by-answer (no e) = ap (λ (q : List ℤ). numbers q i) (refused-is (front (length p) s) (sample (s .at .depth)) (spot (s .at)) p g e)
+      by-answer (no e) = ap (λ (q : List ℤ). item q i) (refused-is (front (length p) s) (sample (s .at .depth)) (spot (s .at)) p g e)
 
-  pub pad-step : numbers (stepOf p s .1) i ≡ numbers p i
-  pad-step = pad-gain (numbers (iwht (s .levels)))
+  pub pad-step : item (stepOf p s .1) i ≡ item p i
+  pad-step = pad-gain (item (iwht (s .levels)))
 
-  pub pad-undo : numbers (undoOf p s .1) i ≡ numbers p i
-  pad-undo = pad-gain (numbers (map negℤ (iwht (s .levels))))
+  pub pad-undo : item (undoOf p s .1) i ≡ item p i
+  pad-undo = pad-gain (item (map negℤ (iwht (s .levels))))
 
-pad-call : (p : List ℤ) (c : Call) (i : ℕ) → InPad (c .step .at) i → numbers (callOf p c .1) i ≡ numbers p i
+pad-call : (p : List ℤ) (c : Call) (i : ℕ) → InPad (c .step .at) i → item (callOf p c .1) i ≡ item p i
 pad-call p c i h = by-kind (c .undo)
   where
-    by-kind : (u : Bool) → numbers (cond u (undoOf p (c .step)) (stepOf p (c .step)) .1) i ≡ numbers p i
+    by-kind : (u : Bool) → item (cond u (undoOf p (c .step)) (stepOf p (c .step)) .1) i ≡ item p i
     by-kind true = pad-undo p (c .step) i h
     by-kind false = pad-step p (c .step) i h
 
-pub pad-calls : (p : List ℤ) (cs : List Call) (i : ℕ) → InPads i cs → numbers (after callOf p cs) i ≡ numbers p i
+pub pad-calls : (p : List ℤ) (cs : List Call) (i : ℕ) → InPads i cs → item (after callOf p cs) i ≡ item p i
 unfolding after
 pad-calls p [] i none = refl
 pad-calls p (c ∷ cs) i (more h t) = pad-call (after callOf p cs) c i h ∙ pad-calls p cs i t

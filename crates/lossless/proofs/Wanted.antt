@@ -12,13 +12,12 @@ use lib.ListN.{length}
 use lib.Seq.{ext-getD}
 use Rattle.answers.specs.declared.Answer.{Answer}
 use Rattle.answers.specs.Answers.{done}
-use Rattle.whole.specs.Sums.{Within}
+use Rattle.whole.specs.Sums.{Within, item}
 use Rattle.whole.proofs.Fill.{tab-at, within-tab}
 use Rattle.whole.proofs.Size.{abs-sub}
 use Rattle.wht.specs.Wht.{fwht, iwht}
 use Rattle.wht.proofs.Inverse.{iwht-fwht, fwht-iwht, fwht-length, iwht-length}
 use Rattle.wht.proofs.Size.{fwht-size}
-use Rattle.lossless.specs.Gains.{numbers}
 use Rattle.lossless.specs.Step.{Where, spot, sample, front, stepOf}
 use Rattle.lossless.specs.Wanted.{Ready, Samples, Shows, difference, stepWith, stepTo}
 use Rattle.lossless.proofs.Adding.{sample-size}
@@ -28,7 +27,7 @@ use Rattle.lossless.proofs.Calls.{accepted, taking, taken-at}
 
 module _ (p : List ℤ) (w : Where) (b : List ℤ) (r : Ready p w) (wanted : Samples (w .depth) b) where
   abbrev gap : ℕ → ℤ
-  gap k = numbers b k -ℤ numbers p (spot w k)
+  gap k = item b k -ℤ item p (spot w k)
 
   abbrev levels : List ℤ
   levels = fwht (difference p w b)
@@ -38,16 +37,16 @@ module _ (p : List ℤ) (w : Where) (b : List ℤ) (r : Ready p w) (wanted : Sam
       within-tab 8190 16 gap
       (λ k h. omega (
         arith,
-        abs-sub (numbers b k) (numbers p (spot w k)),
-        sample-size (w .depth) (numbers b k) (depth-is w (r .depths) .1) (wanted .good k h),
-        sample-size (w .depth) (numbers p (spot w k)) (depth-is w (r .depths) .1) (r .present k h),
+        abs-sub (item b k) (item p (spot w k)),
+        sample-size (w .depth) (item b k) (depth-is w (r .depths) .1) (wanted .good k h),
+        sample-size (w .depth) (item p (spot w k)) (depth-is w (r .depths) .1) (r .present k h),
       ))
 
-  residual-is : (k : ℕ) → k < 16 → numbers (iwht levels) k ≡ gap k
-  residual-is k h = ap (λ l. numbers l k) (iwht-fwht (difference p w b) refl) ∙ tab-at (pos 0) 16 gap k h
+  residual-is : (k : ℕ) → k < 16 → item (iwht levels) k ≡ gap k
+  residual-is k h = ap (λ l. item l k) (iwht-fwht (difference p w b) refl) ∙ tab-at (pos 0) 16 gap k h
 
-  arriving : (k : ℕ) → k < 16 → numbers p (spot w k) +ℤ numbers (iwht levels) k ≡ numbers b k
-  arriving k h = arrives (numbers p (spot w k)) (numbers b k) (residual-is k h)
+  arriving : (k : ℕ) → k < 16 → item p (spot w k) +ℤ item (iwht levels) k ≡ item b k
+  arriving k h = arrives (item p (spot w k)) (item b k) (residual-is k h)
 
   front-fine : Fine (length p) (stepTo p w b)
   front-fine =
@@ -61,17 +60,17 @@ module _ (p : List ℤ) (w : Where) (b : List ℤ) (r : Ready p w) (wanted : Sam
 
   taking-it : stepOf p (stepTo p w b) .0 ≡ done
   taking-it =
-      ap (λ x. x .0) (taking (front (length p) (stepTo p w b)) (sample (w .depth)) (spot w) p (numbers (iwht levels))
+      ap (λ x. x .0) (taking (front (length p) (stepTo p w b)) (sample (w .depth)) (spot w) p (item (iwht levels))
       (ap (λ (a : Answer). a .number) (front-done (length p) (stepTo p w b) front-fine))
       (record { present = r .present; later = λ k h. ap (sample (w .depth)) (arriving k h) ∙ wanted .good k h }))
 
   -- a taken step there with the levels l
   module _ (l : List ℤ) (e : stepOf p (stepWith w l) .0 .number ≡ 0) where
     args : Fine (length p) (stepWith w l)
-    args = fine (length p) (stepWith w l) (accepted (front (length p) (stepWith w l)) (sample (w .depth)) (spot w) p (numbers (iwht l)) e .0)
+    args = fine (length p) (stepWith w l) (accepted (front (length p) (stepWith w l)) (sample (w .depth)) (spot w) p (item (iwht l)) e .0)
 
-    gives : (k : ℕ) → k < 16 → numbers (stepOf p (stepWith w l) .1) (spot w k) ≡ numbers p (spot w k) +ℤ numbers (iwht l) k
-    gives = taken-at (front (length p) (stepWith w l)) (sample (w .depth)) (spot w) p (numbers (iwht l)) (lies args) e
+    gives : (k : ℕ) → k < 16 → item (stepOf p (stepWith w l) .1) (spot w k) ≡ item p (spot w k) +ℤ item (iwht l) k
+    gives = taken-at (front (length p) (stepWith w l)) (sample (w .depth)) (spot w) p (item (iwht l)) (lies args) e
 
   pub exists : (stepOf p (stepTo p w b) .0 ≡ done) × Shows (stepOf p (stepTo p w b) .1) w b
   exists = (taking-it, record { shown = λ k h. gives levels (ap (λ (a : Answer). a .number) taking-it) k h ∙ arriving k h })
@@ -81,7 +80,7 @@ module _ (p : List ℤ) (w : Where) (b : List ℤ) (r : Ready p w) (wanted : Sam
       sym (fwht-iwht l (args l e .levels .count))
       ∙ ap fwht (ext-getD (pos 0) (iwht l) (difference p w b) (iwht-length l) (λ k h. same k (subst (λ (n : ℕ). k < n) (iwht-length l) h)))
     where
-      same : (k : ℕ) → k < 16 → numbers (iwht l) k ≡ numbers (difference p w b) k
+      same : (k : ℕ) → k < 16 → item (iwht l) k ≡ item (difference p w b) k
       same k h =
-          determined (numbers p (spot w k)) (numbers b k) (numbers (iwht l) k) (sym (gives l e k h) ∙ sh .shown k h)
+          determined (item p (spot w k)) (item b k) (item (iwht l) k) (sym (gives l e k h) ∙ sh .shown k h)
           ∙ sym (tab-at (pos 0) 16 gap k h)

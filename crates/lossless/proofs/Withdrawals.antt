@@ -8,10 +8,11 @@ use mathlib.Core.List.{List, _∷_, _++_, map}
 use Prim.Native.Nat.{ℕ, _<_}
 use lib.IntN.{ℤ, negℤ, _+ℤ_}
 use lib.ListN.{length}
+use Rattle.whole.specs.Sums.{item}
 use Rattle.answers.specs.declared.Answer.{Answer}
 use Rattle.answers.specs.Answers.{done}
 use Rattle.wht.specs.Wht.{iwht}
-use Rattle.lossless.specs.Gains.{numbers, gain, gained}
+use Rattle.lossless.specs.Gains.{gain, gained}
 use Rattle.lossless.specs.Step.{Step, spot, sample, front, gainOf, stepOf, undoOf}
 use Rattle.lossless.specs.Replay.{Apart, Replay, Clear, Came}
 use Rattle.lossless.proofs.Gains.{length-addOn, addOn-swap}
@@ -25,7 +26,7 @@ apart-back n = record { none = λ x. n .none (record { mine = x .other; other = 
 
 -- t has gained h: the samples of s are as they were, and so are its tests
 module _ (p : List ℤ) (s t : Step) (g h : ℕ → ℤ) (n : Apart s t) where
-  still : (k : ℕ) → k < 16 → numbers (gained (spot (t .at)) h p) (spot (s .at) k) ≡ numbers p (spot (s .at) k)
+  still : (k : ℕ) → k < 16 → item (gained (spot (t .at)) h p) (spot (s .at) k) ≡ item p (spot (s .at) k)
   still k l = elsewhere (spot (t .at)) h p (spot (s .at) k) (λ j m e. n .none (record { mine = k; other = j; mine-in = l; other-in = m; same = sym e }))
 
   still-passes : Passes (sample (s .at .depth)) (spot (s .at)) p g → Passes (sample (s .at .depth)) (spot (s .at)) (gained (spot (t .at)) h p) g
@@ -61,10 +62,10 @@ both-ways p q r s t g h n e f = (
 
 -- ---- what Middle asks of the lossless steps
 step-kept : (p : List ℤ) (s : Step) → (stepOf p s .0 .number ≡ 0 → ⊥) → stepOf p s .1 ≡ p
-step-kept p s = refused-is (front (length p) s) (sample (s .at .depth)) (spot (s .at)) p (numbers (iwht (s .levels)))
+step-kept p s = refused-is (front (length p) s) (sample (s .at .depth)) (spot (s .at)) p (item (iwht (s .levels)))
 
 step-done : (p : List ℤ) (s : Step) → stepOf p s .0 .number ≡ 0 → stepOf p s .0 ≡ done
-step-done p s e = ap (λ (x : Answer × List ℤ). x .0) (taken (front (length p) s) (sample (s .at .depth)) (spot (s .at)) p (numbers (iwht (s .levels))) e)
+step-done p s e = ap (λ (x : Answer × List ℤ). x .0) (taken (front (length p) s) (sample (s .at .depth)) (spot (s .at)) p (item (iwht (s .levels))) e)
 
 step-undone : (p q : List ℤ) (s : Step) → stepOf p s ≡ (done, q) → undoOf q s ≡ (done, p)
 step-undone p q s e = ap (λ (x : Answer × List ℤ). undoOf (x .1) s) (sym e) ∙ undo-exact p s (ap (λ (x : Answer × List ℤ). x .0 .number) e)
@@ -73,7 +74,7 @@ undo-redone : (p q : List ℤ) (s : Step) → undoOf p s ≡ (done, q) → stepO
 undo-redone p q s e = ap (λ (x : Answer × List ℤ). stepOf (x .1) s) (sym e) ∙ redo-exact p s (ap (λ (x : Answer × List ℤ). x .0 .number) e)
 
 crossing : (p q r : List ℤ) (s t : Step) → Apart t s → undoOf p s ≡ (done, q) → stepOf p t ≡ (done, r) → (x : List ℤ) × (undoOf r s ≡ (done, x)) × (stepOf q t ≡ (done, x))
-crossing p q r s t = both-ways p q r s t (numbers (map negℤ (iwht (s .levels)))) (numbers (iwht (t .levels)))
+crossing p q r s t = both-ways p q r s t (item (map negℤ (iwht (s .levels)))) (item (iwht (t .levels)))
 
 -- ---- the statements
 pub steps-remain : (p r : List ℤ) (ts : List Step) → Came stepOf undoOf Apart p ts r → Replay stepOf p ts r

@@ -12,14 +12,10 @@ use mathlib.Core.List.{List, [], _∷_}
 use Prim.Native.Nat.{ℕ, zero, suc, _<_}
 use lib.Dec.{eqb}
 use lib.IntN.{ℤ, pos, _+ℤ_}
-use lib.ListN.{getD}
+use Rattle.whole.specs.Sums.{item}
 use Rattle.answers.specs.declared.Answer.{Answer}
 use Rattle.answers.specs.Answers.{done, unless, searched, ends}
 use Rattle.whole.specs.Search.{seek}
-
--- number k of a list
-abbrev pub numbers : List ℤ → ℕ → ℤ
-numbers l k = getD l k (pos 0)
 
 unfoldable pub addOn : (ℕ → ℤ) → List ℤ → List ℤ
 addOn f [] = []
@@ -33,10 +29,10 @@ abbrev pub gained : (ℕ → ℕ) → (ℕ → ℤ) → List ℤ → List ℤ
 gained at g p = addOn (gain at g 16) p
 
 abbrev pub presentOk : (ℤ → Bool) → (ℕ → ℕ) → List ℤ → ℕ → Bool
-presentOk ok at p k = ok (numbers p (at k))
+presentOk ok at p k = ok (item p (at k))
 
 abbrev pub laterOk : (ℤ → Bool) → (ℕ → ℕ) → List ℤ → (ℕ → ℤ) → ℕ → Bool
-laterOk ok at p g k = ok (numbers p (at k) +ℤ g k)
+laterOk ok at p g k = ok (item p (at k) +ℤ g k)
 
 abbrev pub leaves : (ℤ → Bool) → (ℕ → ℕ) → List ℤ → (ℕ → ℤ) → Answer
 leaves ok at p g = searched 10 2 16 at (seek (laterOk ok at p g) 0 16) done

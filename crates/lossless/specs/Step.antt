@@ -12,13 +12,14 @@ use Prim.Native.Nat.{ℕ, _+_, _*_}
 use lib.Dec.{leb, eqb}
 use lib.IntN.{ℤ, pos, negℤ}
 use lib.ListN.{length}
+use Rattle.whole.specs.Sums.{item}
 use Rattle.answers.specs.declared.Answer.{Answer}
 use Rattle.answers.specs.Answers.{refused, unless}
 use Rattle.whole.specs.Numbers.{inRange, highest}
 use Rattle.whole.specs.Search.{cellAt}
 use Rattle.wht.specs.Wht.{iwht}
 use Rattle.wht.specs.Calls.{outside}
-use Rattle.lossless.specs.Gains.{numbers, gaining}
+use Rattle.lossless.specs.Gains.{gaining}
 
 pub record Where : Type 0 where
   pub depth : ℕ
@@ -72,7 +73,7 @@ gainOf p s g = gaining (front (length p) s) (sample (s .at .depth)) (spot (s .at
 
 -- the residuals are those of the inverse transform
 abbrev pub stepOf : List ℤ → Step → Answer × List ℤ
-stepOf p s = gainOf p s (numbers (iwht (s .levels)))
+stepOf p s = gainOf p s (item (iwht (s .levels)))
 
 abbrev pub undoOf : List ℤ → Step → Answer × List ℤ
-undoOf p s = gainOf p s (numbers (map negℤ (iwht (s .levels))))
+undoOf p s = gainOf p s (item (map negℤ (iwht (s .levels))))

@@ -9,9 +9,8 @@ use mathlib.Core.List.{List}
 use Prim.Native.Nat.{ℕ, _<_}
 use lib.IntN.{ℤ, _-ℤ_}
 use lib.ListN.{length}
-use Rattle.whole.specs.Sums.{tab}
+use Rattle.whole.specs.Sums.{tab, item}
 use Rattle.wht.specs.Wht.{fwht}
-use Rattle.lossless.specs.Gains.{numbers}
 use Rattle.lossless.specs.Step.{Where, Step, spot, sample, deep, strides, widths, fits}
 
 pub record Ready (p : List ℤ) (w : Where) : Type 0 where
@@ -19,17 +18,17 @@ pub record Ready (p : List ℤ) (w : Where) : Type 0 where
   pub wide : strides w ≡ true
   pub visible : widths w ≡ true
   pub fit : fits w (length p) ≡ true
-  pub present : (k : ℕ) → k < 16 → sample (w .depth) (numbers p (spot w k)) ≡ true
+  pub present : (k : ℕ) → k < 16 → sample (w .depth) (item p (spot w k)) ≡ true
 
 pub record Samples (depth : ℕ) (b : List ℤ) : Type 0 where
   pub count : length b ≡ 16
-  pub good : (k : ℕ) → k < 16 → sample depth (numbers b k) ≡ true
+  pub good : (k : ℕ) → k < 16 → sample depth (item b k) ≡ true
 
 pub record Shows (p : List ℤ) (w : Where) (b : List ℤ) : Type 0 where
-  pub shown : (k : ℕ) → k < 16 → numbers p (spot w k) ≡ numbers b k
+  pub shown : (k : ℕ) → k < 16 → item p (spot w k) ≡ item b k
 
 abbrev pub difference : List ℤ → Where → List ℤ → List ℤ
-difference p w b = tab 16 (λ k. numbers b k -ℤ numbers p (spot w k))
+difference p w b = tab 16 (λ k. item b k -ℤ item p (spot w k))
 
 -- a step there, with the levels l, and the one that leads to b
 abbrev pub stepWith : Where → List ℤ → Step

@@ -3,11 +3,12 @@ ghost use mathlib.Core.Path.{_≡_};
 ghost use Prim.Native.Nat.{_+_, _*_, _^_, _≤_, _<_};
 ghost use lib.IntN.{pos};
 ghost use lib.ListN.{length};
+ghost use Rattle.whole.specs.Sums.{item};
 ghost use Rattle.answers.specs.Answers.{ends};
 ghost use Rattle.whole.specs.Numbers.{inRange};
 ghost use Rattle.whole.specs.Search.{seek, cellAt};
 ghost use Rattle.wht.specs.Calls.{Sixteen};
-ghost use Rattle.lossless.specs.Gains.{numbers, gained, laterOk, samples};
+ghost use Rattle.lossless.specs.Gains.{gained, laterOk, samples};
 ghost use Rattle.lossless.specs.Step.{sample};
 ghost use Rattle.lossless.specs.Bounds.{Addable};
 use answers::Answer;
@@ -23,7 +24,7 @@ pub fn spot_of(start: usize, stride: usize, k: usize) -> usize
 // The number of the first sample that would leave 0 .. hi, or 16.
 fn first_leaving(plane: &[i32], gains: &[i32], start: usize, stride: usize, hi: i32) -> usize
     requires { ⌜ Addable (now plane) start stride (now gains) ⌝ }
-    ensures { λ r. ⌜ r ≡ seek (laterOk (inRange (pos 0) hi) (cellAt start stride 4) (now (plane .entry)) (numbers (now (gains .entry)))) 0 16 ⌝ }
+    ensures { λ r. ⌜ r ≡ seek (laterOk (inRange (pos 0) hi) (cellAt start stride 4) (now (plane .entry)) (item (now (gains .entry)))) 0 16 ⌝ }
 {
     let mut found = 16;
     let mut r = 0;
@@ -46,7 +47,7 @@ fn first_leaving(plane: &[i32], gains: &[i32], start: usize, stride: usize, hi: 
 // The refusals 8 and 10, or Done.
 pub fn judge(plane: &[i32], gains: &[i32], depth: u32, start: usize, stride: usize) -> Answer
     requires { ⌜ (depth ≤ 12) × (start + 3 * stride + 4 ≤ length (now plane)) × Sixteen 1048576 (now gains) ⌝ }
-    ensures { λ r. ⌜ r ≡ samples (sample depth) (cellAt start stride 4) (now (plane .entry)) (numbers (now (gains .entry))) ⌝ }
+    ensures { λ r. ⌜ r ≡ samples (sample depth) (cellAt start stride 4) (now (plane .entry)) (item (now (gains .entry))) ⌝ }
 {
     let hi = ranges::high_end(depth);
     let bad = ranges::first_outside(plane, start, stride, 4, 4, 0, hi);
@@ -63,7 +64,7 @@ pub fn judge(plane: &[i32], gains: &[i32], depth: u32, start: usize, stride: usi
 // Each sample of the block gains its number.
 pub fn add(plane: &mut [i32], gains: &[i32], start: usize, stride: usize)
     requires { ⌜ Addable (now plane) start stride (now gains) × (4 ≤ stride) ⌝ }
-    ensures { λ _. ⌜ now (plane .exit) ≡ gained (cellAt start stride 4) (numbers (now (gains .entry))) (now (plane .entry)) ⌝ }
+    ensures { λ _. ⌜ now (plane .exit) ≡ gained (cellAt start stride 4) (item (now (gains .entry))) (now (plane .entry)) ⌝ }
 {
     let mut k = 0;
     while k < 16 {
@@ -77,8 +78,8 @@ pub fn add(plane: &mut [i32], gains: &[i32], start: usize, stride: usize)
 // The samples of the block gain their numbers, or a refusal and nothing written.
 pub fn gain(plane: &mut [i32], gains: &[i32], depth: u32, start: usize, stride: usize) -> Answer
     requires { ⌜ (depth ≤ 12) × (start + 3 * stride + 4 ≤ length (now plane)) × Sixteen 1048576 (now gains) × (4 ≤ stride) ⌝ }
-    ensures { λ r. ⌜ (r, now (plane .exit)) ≡ ends (samples (sample depth) (cellAt start stride 4) (now (plane .entry)) (numbers (now (gains .entry)))) (now (plane .entry))
-        (gained (cellAt start stride 4) (numbers (now (gains .entry))) (now (plane .entry))) ⌝ }
+    ensures { λ r. ⌜ (r, now (plane .exit)) ≡ ends (samples (sample depth) (cellAt start stride 4) (now (plane .entry)) (item (now (gains .entry)))) (now (plane .entry))
+        (gained (cellAt start stride 4) (item (now (gains .entry))) (now (plane .entry))) ⌝ }
 {
     let a = judge(plane, gains, depth, start, stride);
     if a.number != 0 {

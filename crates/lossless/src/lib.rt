@@ -4,8 +4,8 @@ ghost use mathlib.Core.Path.{_≡_};
 ghost use mathlib.Core.List.{map};
 ghost use lib.IntN.{negℤ};
 ghost use lib.ListN.{length};
+ghost use Rattle.whole.specs.Sums.{item};
 ghost use Rattle.wht.specs.Calls.{Sixteen};
-ghost use Rattle.lossless.specs.Gains.{numbers};
 ghost use Rattle.lossless.specs.Step.{attempt, gainOf, stepOf, undoOf};
 ghost use Rattle.lossless.specs.Bounds.{change};
 use answers::Answer;
@@ -50,7 +50,7 @@ fn step_or_undo(
     level: &[i32],
     undo: bool,
 ) -> Answer
-    ensures { λ r. ⌜ (r, now (plane .exit)) ≡ gainOf (now (plane .entry)) (attempt depth stride width row column (now (level .entry))) (numbers (change undo (now (level .entry)))) ⌝ }
+    ensures { λ r. ⌜ (r, now (plane .exit)) ≡ gainOf (now (plane .entry)) (attempt depth stride width row column (now (level .entry))) (item (change undo (now (level .entry)))) ⌝ }
 {
     let a = front::judge(plane.len(), depth, stride, width, row, column, level);
     if a.number != 0 {

@@ -10,10 +10,10 @@ use lib.IntN.{ℤ, pos}
 use lib.ListN.{length}
 use Rattle.answers.specs.Answers.{done}
 use Rattle.whole.specs.Sums.{tab}
-use Rattle.whole.proofs.Tests.{both, and-true}
+use Rattle.whole.proofs.Tests.{and-true}
 use Rattle.lossless.specs.Step.{place}
 use Rattle.lossless.specs.Wanted.{Samples, Shows}
-use Rattle.keeping.specs.Range.{Area, within}
+use Rattle.keeping.specs.Range.{Area}
 use Rattle.history.specs.Calls.{Lent, room, stepOf}
 use Rattle.reached.proofs.Wanted.{exists}
 use Rattle.screen.specs.Planes.{argument}

@@ -14,10 +14,10 @@ use lib.ListN.{length}
 use Rattle.answers.specs.declared.Answer.{Answer}
 use Rattle.answers.specs.Answers.{refused, unless, ends}
 use Rattle.answers.proofs.Verdicts.{passed}
-use Rattle.whole.specs.Sums.{tab}
+use Rattle.whole.specs.Sums.{tab, item}
 use Rattle.whole.proofs.Fill.{length-tab}
 use Rattle.wht.specs.Wht.{iwht}
-use Rattle.lossless.specs.Gains.{numbers, gain}
+use Rattle.lossless.specs.Gains.{gain}
 use Rattle.lossless.specs.Step as S
 use Rattle.lossless.specs.Step.{Step}
 use Rattle.lossless.specs.History.{Undoes, none, next}
@@ -68,7 +68,7 @@ module _ (a : Area) (base : List ℤ) (m : Lent) (g : Good a base m) where
           let i = index-stepped a m (g .index-is) d r c v (f .stand .right) (f .stand .low) (omega (arith, k .steps, less))
           ∙ ap (λ n. indexOf (a .width) (a .rows) (marks (addedTo d r c (m .steps)) n)) (sym (count-stepped d r c (m .steps) (omega (arith, k .steps)))) in
           record {
-            size = g .size ∙ sym (length-addOn (gain (spots (a .stride) r c) (numbers (iwht v)) 16) (m .plane));
+            size = g .size ∙ sym (length-addOn (gain (spots (a .stride) r c) (item (iwht v)) 16) (m .plane));
             keeping = with-index (length (stepped a d r c v m .index)) (keeping-stepped a d r c v (m .steps) (m .levels) (length (m .index)) (R.parts a base m (g .size) (g .holds) d r c v e .0) k (f .sixteen .count) less)
                 (index-long a (marks (addedTo d r c (m .steps)) (count (addedTo d r c (m .steps)))) i);
             holds = R.holds-stepped a base m (g .size) (g .holds) d r c v e;
@@ -83,7 +83,7 @@ module _ (a : Area) (base : List ℤ) (m : Lent) (g : Good a base m) where
       let x = index-taken-out a m (g .index-is) i h (b .right) (b .low) (omega (arith, k .steps, k .most))
       ∙ ap (λ n. indexOf (a .width) (a .rows) (marks (stepsWithout i (m .steps)) n)) (sym (count-taken-out i (m .steps) (omega (arith, k .steps)))) in
       record {
-        size = g .size ∙ sym (length-addOn (gain (spots (a .stride) (word (m .steps) i 2) (word (m .steps) i 3)) (numbers (losses (levelsAt (m .levels) i))) 16) (m .plane));
+        size = g .size ∙ sym (length-addOn (gain (spots (a .stride) (word (m .steps) i 2) (word (m .steps) i 3)) (item (losses (levelsAt (m .levels) i))) 16) (m .plane));
         keeping = with-index (length (takenOut a i m .index)) (keeping-taken-out a (m .steps) (m .levels) (length (m .index)) i k h)
             (index-long a (marks (stepsWithout i (m .steps)) (count (stepsWithout i (m .steps)))) x);
         holds = R.holds-taken-out a base m (g .size) (g .holds) k i h f;

@@ -15,6 +15,7 @@ use borrow.Author.Tests.{eq-eqb, le-leb, lt-ltb, ltb-true}
 use lib.Dec.{ltb, eqb}
 use lib.IntN.{ℤ}
 use lib.ListN.{length}
+use Rattle.whole.specs.Sums.{item}
 use Rattle.answers.specs.declared.Answer.{Answer}
 use Rattle.answers.specs.Answers.{done, refused, unless, ends}
 use Rattle.answers.proofs.Verdicts.{opens, passed}
@@ -22,7 +23,7 @@ use Rattle.whole.specs.Search.{seek}
 use Rattle.whole.proofs.Search.{seek-all}
 use Rattle.whole.proofs.Tests.{both, and-true}
 use Rattle.wht.specs.Wht.{iwht}
-use Rattle.lossless.specs.Gains.{numbers, gained, samples}
+use Rattle.lossless.specs.Gains.{gained, samples}
 use Rattle.lossless.specs.Step.{attempt, sample, front, stepOf, undoOf}
 use Rattle.lossless.proofs.Arguments.{Fine, front-done}
 use Rattle.lossless.proofs.Blocks as B
@@ -72,8 +73,8 @@ module _ (a : Area) (base : List ℤ) (m : Lent) (size : a .size ≡ length (m .
     pub args : Fronted a d r c v (m .steps) (m .levels) (length (m .index))
     args = front-is a d r c v (m .steps) (m .levels) (length (m .index)) (parts .0)
 
-    ends-parts : (samples (sample d) (spots (a .stride) r c) (m .plane) (numbers (iwht v)) .number ≡ 0) × (unless (room (m .steps)) (refused 14 0 0) done .number ≡ 0)
-    ends-parts = then-passed (samples (sample d) (spots (a .stride) r c) (m .plane) (numbers (iwht v))) (unless (room (m .steps)) (refused 14 0 0) done) (parts .1)
+    ends-parts : (samples (sample d) (spots (a .stride) r c) (m .plane) (item (iwht v)) .number ≡ 0) × (unless (room (m .steps)) (refused 14 0 0) done .number ≡ 0)
+    ends-parts = then-passed (samples (sample d) (spots (a .stride) r c) (m .plane) (item (iwht v))) (unless (room (m .steps)) (refused 14 0 0) done) (parts .1)
 
     shape : Shape a
     shape = shape-is a (args .keeping .shape)
@@ -92,11 +93,11 @@ module _ (a : Area) (base : List ℤ) (m : Lent) (size : a .size ≡ length (m .
         }
 
     -- it is the step of the lossless crate
-    pub step-is : stepOf (m .plane) (attempt d (a .stride) (a .width) r c v) ≡ (done, gained (spots (a .stride) r c) (numbers (iwht v)) (m .plane))
+    pub step-is : stepOf (m .plane) (attempt d (a .stride) (a .width) r c v) ≡ (done, gained (spots (a .stride) r c) (item (iwht v)) (m .plane))
     step-is =
-        taking (front (length (m .plane)) (attempt d (a .stride) (a .width) r c v)) (sample d) (spots (a .stride) r c) (m .plane) (numbers (iwht v))
+        taking (front (length (m .plane)) (attempt d (a .stride) (a .width) r c v)) (sample d) (spots (a .stride) r c) (m .plane) (item (iwht v))
         (ap (λ (x : Answer). x .number) (front-done (length (m .plane)) (attempt d (a .stride) (a .width) r c v) in-range))
-        (B.passes (sample d) (spots (a .stride) r c) (m .plane) (numbers (iwht v)) (ends-parts .0))
+        (B.passes (sample d) (spots (a .stride) r c) (m .plane) (item (iwht v)) (ends-parts .0))
 
     pub less : count (m .steps) < 4096
     less = ltb-true (count (m .steps)) 4096 (both (ltb (count (m .steps)) 4096) (ltb (numberBefore (m .steps) (count (m .steps))) 4294967295) (passed (room (m .steps)) 13 0 0 done (ends-parts .1) .0) .0)
@@ -121,7 +122,7 @@ module _ (a : Area) (base : List ℤ) (m : Lent) (size : a .size ≡ length (m .
         let s = m .steps in
         let l = m .levels in
         let w = free-undone a base s l (length (m .index)) i (m .plane) size keeping below holds is-free in
-        let g = gained (spots (a .stride) (word s i 2) (word s i 3)) (numbers (losses (levelsAt l i))) (m .plane) in
+        let g = gained (spots (a .stride) (word s i 2) (word s i 3)) (item (losses (levelsAt l i))) (m .plane) in
         let e : w .0 ≡ g =
         ap (λ (x : Answer × List ℤ). x .1)
         (sym (w .1) ∙ undo-is a s l i (m .plane) size (shape-is a (keeping .shape)) (entered keeping i below)

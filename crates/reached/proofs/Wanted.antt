@@ -12,12 +12,13 @@ use borrow.Author.Tests.{eqb-true}
 use lib.Dec.{T, leb, eqb}
 use lib.IntN.{ℤ, pos, negℤ}
 use lib.ListN.{length}
+use Rattle.whole.specs.Sums.{item}
 use Rattle.answers.specs.declared.Answer.{Answer}
 use Rattle.answers.specs.Answers.{done, refused, unless, ends}
 use Rattle.answers.proofs.Verdicts.{passed, taken}
 use Rattle.wht.specs.Calls.{outside}
 use Rattle.wht.specs.Wht.{fwht, iwht}
-use Rattle.lossless.specs.Gains.{numbers, gained, samples, judged, gaining}
+use Rattle.lossless.specs.Gains.{gained, samples, judged, gaining}
 use Rattle.lossless.specs.Step as S
 use Rattle.lossless.specs.Step.{Where, place, attempt, sample, deep, strides, widths, fits, front}
 use Rattle.lossless.specs.Wanted.{Ready, Samples, Shows, difference}
@@ -69,13 +70,13 @@ module _ (a : Area) (m : Lent) (size : a .size ≡ length (m .plane)) (d r c : �
   mine = frontOf a d r c v (m .steps) (m .levels) (length (m .index))
 
   abbrev tests : Answer
-  tests = samples (sample d) (spots (a .stride) r c) (m .plane) (numbers (iwht v))
+  tests = samples (sample d) (spots (a .stride) r c) (m .plane) (item (iwht v))
 
   abbrev left : List ℤ
-  left = gained (spots (a .stride) r c) (numbers (iwht v)) (m .plane)
+  left = gained (spots (a .stride) r c) (item (iwht v)) (m .plane)
 
   tests-done : tests .number ≡ 0 → tests ≡ done
-  tests-done e = B.passed (sample d) (spots (a .stride) r c) (m .plane) (numbers (iwht v)) (B.passes (sample d) (spots (a .stride) r c) (m .plane) (numbers (iwht v)) e)
+  tests-done e = B.passed (sample d) (spots (a .stride) r c) (m .plane) (item (iwht v)) (B.passes (sample d) (spots (a .stride) r c) (m .plane) (item (iwht v)) e)
 
   abbrev by-tests : ℕ → Bool → Bool → Answer
   by-tests n y z =
@@ -111,9 +112,9 @@ module _ (a : Area) (m : Lent) (size : a .size ≡ length (m .plane)) (d r c : �
     unfolding C.stepOf
     accepted-is s free e =
         let n = length (m .plane) in
-        let t = L.accepted (front n step) (sample d) (spots (a .stride) r c) (m .plane) (numbers (iwht v)) e in
+        let t = L.accepted (front n step) (sample d) (spots (a .stride) r c) (m .plane) (item (iwht v)) e in
         let f : mine ≡ done = front-alone (λ z _. subst T (sym s ∙ z) tt) ∙ front-done n step (fine n step (t .0)) in
-        let g : tests ≡ done = B.passed (sample d) (spots (a .stride) r c) (m .plane) (numbers (iwht v)) (t .1) in
+        let g : tests ≡ done = B.passed (sample d) (spots (a .stride) r c) (m .plane) (item (iwht v)) (t .1) in
         ap (λ (x : Answer). ends x m (stepped a d r c v m)) (λ i. andThen (f i) (andThen (g i) (unless (free i) (refused 14 0 0) done)))
 
   plane-taken : C.stepOf a d r c v m .0 .number ≡ 0 → C.stepOf a d r c v m .1 .plane ≡ left
@@ -142,7 +143,7 @@ module _ (a : Area) (base : List ℤ) (m : Lent) (g : Good a base m) (d r c : �
         let x = W.exists p w b ready wanted in
         let e = ap (λ (y : Answer). y .number) (x .0) in
         let t = accepted-is a m (g .size) d r c levels rows low (sound-make (g .keeping)) free e in
-        let q = L.taken (front (length p) (attempt d (a .stride) (a .width) r c levels)) (sample d) (spots (a .stride) r c) p (numbers (iwht levels)) e in (
+        let q = L.taken (front (length p) (attempt d (a .stride) (a .width) r c levels)) (sample d) (spots (a .stride) r c) p (item (iwht levels)) e in (
           ap (λ (y : Answer × Lent). y .0) t,
           subst (λ (y : List ℤ). Shows y w b) (ap (λ (y : Answer × List ℤ). y .1) q ∙ sym (ap (λ (y : Answer × Lent). y .1 .plane) t)) (x .1),
         )

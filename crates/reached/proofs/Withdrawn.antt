@@ -14,10 +14,11 @@ use native.Mathlib.Omega.{arith}
 use borrow.Author.Tests.{eqb-true, eq-eqb, le-leb, lt-ltb}
 use lib.IntN.{ℤ}
 use lib.ListN.{length}
+use Rattle.whole.specs.Sums.{item}
 use Rattle.answers.specs.declared.Answer.{Answer}
 use Rattle.answers.specs.Answers.{done, ends}
 use Rattle.whole.proofs.Tests.{and-true}
-use Rattle.lossless.specs.Gains.{numbers, gained}
+use Rattle.lossless.specs.Gains.{gained}
 use Rattle.lossless.specs.Step.{Step, spot, sample, front, deep, stepOf, undoOf}
 use Rattle.lossless.proofs.Arguments.{Fine, front-done}
 use Rattle.lossless.proofs.Calls.{passed-call}
@@ -107,9 +108,9 @@ module _ (a : Area) (s : List ℕ) (l : List ℤ) (i : ℕ) (p : List ℤ) (size
         levels = h .sixteen;
       }
 
-  pub undo-is : undoOf p (stepIn a e) ≡ ends (undoing (a .stride) p e) p (gained (spots (a .stride) (word s i 2) (word s i 3)) (numbers (losses (levelsAt l i))) p)
+  pub undo-is : undoOf p (stepIn a e) ≡ ends (undoing (a .stride) p e) p (gained (spots (a .stride) (word s i 2) (word s i 3)) (item (losses (levelsAt l i))) p)
   undo-is =
-      passed-call (front (length p) (stepIn a e)) (sample (word s i 1)) (spot (stepIn a e .at)) p (numbers (losses (levelsAt l i)))
+      passed-call (front (length p) (stepIn a e)) (sample (word s i 1)) (spot (stepIn a e .at)) p (item (losses (levelsAt l i)))
       (ap (λ (x : Answer). x .number) (front-done (length p) (stepIn a e) in-range))
 
 -- ---- the undo of a free step

@@ -3,7 +3,7 @@ ghost use mathlib.Core.Path.{_≡_};
 ghost use Prim.Native.Nat.{_≤_};
 ghost use lib.IntN.{pos};
 ghost use lib.ListN.{length, getD};
-ghost use Rattle.whole.specs.Sums.{tab, dense, place};
+ghost use Rattle.whole.specs.Sums.{tab, dense, flipped};
 ghost use Rattle.rows.specs.Rows.{Rows};
 ghost use Rattle.rows.specs.Short.{AllShort};
 use crate::short::long_ones;
@@ -61,7 +61,7 @@ pub fn rows_of(c: &mut [i32], mat: &[i8])
 // The numbers from the last to the first where flip is set, else as they are.
 pub fn turn(c: &mut [i32], flip: bool)
     requires { ⌜ length (now c) ≤ 16 ⌝ }
-    ensures { λ _. ⌜ now (c .exit) ≡ tab (length (now (c .entry))) (λ k. getD (now (c .entry)) (place flip (length (now (c .entry))) k) (pos 0)) ⌝ }
+    ensures { λ _. ⌜ now (c .exit) ≡ tab (length (now (c .entry))) (λ k. getD (now (c .entry)) (flipped flip (length (now (c .entry))) k) (pos 0)) ⌝ }
 {
     if !flip {
         return;

@@ -12,6 +12,7 @@ use lib.Dec.{lit<, lit≤}
 use lib.IntN.{ℤ, pos, _-ℤ_}
 use mir.Syntax.{w32}
 use mir.Val.{toZ, ofZ}
+use Rattle.whole.specs.Sums.{item}
 use Rattle.whole.specs.Numbers.{highest}
 use Rattle.whole.specs.Search.{seek, cellAt}
 use Rattle.whole.proofs.Fill.{within-tab}
@@ -19,20 +20,19 @@ use Rattle.whole.proofs.Num.{Num, made, minus}
 use Rattle.ranges.specs.Cells.{cellOk}
 use Rattle.wht.specs.Calls.{Sixteen}
 use Rattle.wht.specs.Wht.{fwht}
-use Rattle.lossless.specs.Gains.{numbers}
 use Rattle.lossless.specs.Step.{place}
 use Rattle.lossless.specs.Wanted.{difference}
 use Rattle.screen.specs.Planes.{standsOf}
 use Rattle.screen.specs.Steps.{gapsOf, levelsTo, Near}
 
 pub gap : {p : List ℤ} {start stride : ℕ} {b : List ℤ} → Near p start stride b → (k : ℕ) → k < 16
-    → Num (toZ w32 (ofZ w32 (numbers b k)) -ℤ toZ w32 (ofZ w32 (numbers p (cellAt start stride 4 k)))) (numbers b k -ℤ numbers p (cellAt start stride 4 k)) (4095 + 4095)
+    → Num (toZ w32 (ofZ w32 (item b k)) -ℤ toZ w32 (ofZ w32 (item p (cellAt start stride 4 k)))) (item b k -ℤ item p (cellAt start stride 4 k)) (4095 + 4095)
 gap {p} {start} {stride} {b} n k h =
-    minus (made w32 {z = numbers b k} (n .wanted k h) (lit< tt)) (made w32 {z = numbers p (cellAt start stride 4 k)} (n .present k h) (lit< tt))
+    minus (made w32 {z = item b k} (n .wanted k h) (lit< tt)) (made w32 {z = item p (cellAt start stride 4 k)} (n .present k h) (lit< tt))
 
 pub gaps-small : {p : List ℤ} {start stride : ℕ} {b : List ℤ} → Near p start stride b → Sixteen 65535 (gapsOf p start stride b)
 gaps-small {p} {start} {stride} {b} n =
-    record { count = refl; small = within-tab 65535 16 (λ k. numbers b k -ℤ numbers p (cellAt start stride 4 k)) (λ k h. le-trans (gap n k h .size) (lit≤ tt)) }
+    record { count = refl; small = within-tab 65535 16 (λ k. item b k -ℤ item p (cellAt start stride 4 k)) (λ k h. le-trans (gap n k h .size) (lit≤ tt)) }
 
 module _ (depth stride width height row column : ℕ) (p b l : List ℤ) where
   -- where the search for a bad sample ends

@@ -12,6 +12,7 @@ use lib.Dec.{leb, ltb, ltb→lt}
 use lib.IntN.{ℤ, pos}
 use lib.ListN.{length, take, drop, length-drop, take-append-drop, List·getD-eq-default}
 use lib.Seq.{length-take-le}
+use Rattle.whole.specs.Sums.{item}
 use Rattle.answers.proofs.Verdicts.{taken, left}
 use Rattle.answers.specs.declared.Answer.{Answer}
 use Rattle.whole.specs.Grid.{inBlock}
@@ -21,12 +22,11 @@ use Rattle.whole.proofs.Tests.{both}
 use Rattle.verdicts.specs.Verdicts.{wOf, hOf, addVerdict}
 use Rattle.pixels.specs.Calls.{strict, added, addOf}
 use Rattle.pixels.specs.Pixels.{residualAt, pixelOf}
-use Rattle.lossless.specs.Gains.{numbers}
 use Rattle.screen.specs.Planes.{standsOf, blockStands, blockOf, fromOn}
 use Rattle.screen.proofs.Planes.{stands-is}
 
 -- two lists behind the same one
-append-same : (xs ys zs : List ℤ) (i : ℕ) → ((j : ℕ) → i ≡ length xs + j → numbers ys j ≡ numbers zs j) → numbers (xs ++ ys) i ≡ numbers (xs ++ zs) i
+append-same : (xs ys zs : List ℤ) (i : ℕ) → ((j : ℕ) → i ≡ length xs + j → item ys j ≡ item zs j) → item (xs ++ ys) i ≡ item (xs ++ zs) i
 append-same [] ys zs i f = f i (sym (N.zero-add i))
 append-same (x ∷ xs) ys zs zero f = refl
 append-same (x ∷ xs) ys zs (suc i) f = append-same xs ys zs i (λ j e. f j (ap suc e ∙ sym (N.suc-add (length xs) j)))
@@ -47,7 +47,7 @@ module _ (p : List ℤ) (t w h r c : ℕ) (cs : List ℤ) (y x d i : ℕ) (wide 
 
   -- sample k of what is drawn
   abbrev cell : ℕ → ℤ
-  cell k = cond (inBlock t (wOf x) (hOf x) k) (pixelOf d (numbers rest k) (residualAt false x y d cs (k / t) (k % t))) (numbers rest k)
+  cell k = cond (inBlock t (wOf x) (hOf x) k) (pixelOf d (item rest k) (residualAt false x y d cs (k / t) (k % t))) (item rest k)
 
   -- a sample of the pad stands beside the block
   beside : c + wOf x ≤ w → (j : ℕ) → i ≡ start + j → ltb (j % t) (wOf x) ≡ false
@@ -61,13 +61,13 @@ module _ (p : List ℤ) (t w h r c : ℕ) (cs : List ℤ) (y x d i : ℕ) (wide 
           let place : i ≡ (r + j / t) * t + (c + j % t) = omega (arith, e, N.add-mul r (j / t) t, N.div-add-mod' j t) in
           absurd (omega (arith, pad, near, fit, ap (λ (k : ℕ). k % t) place, cell-column (r + j / t) column))
 
-  kept : c + wOf x ≤ w → numbers (take start p ++ drawn) i ≡ numbers p i
-  kept fit = append-same (take start p) drawn rest i at ∙ ap (λ l. numbers l i) (take-append-drop start p)
+  kept : c + wOf x ≤ w → item (take start p ++ drawn) i ≡ item p i
+  kept fit = append-same (take start p) drawn rest i at ∙ ap (λ l. item l i) (take-append-drop start p)
     where
-      at : (j : ℕ) → i ≡ length (take start p) + j → numbers drawn j ≡ numbers rest j
+      at : (j : ℕ) → i ≡ length (take start p) + j → item drawn j ≡ item rest j
       at j e = by-length (under (length rest) j)
         where
-          by-length : (length rest ≤ j) ⊎ (j < length rest) → numbers drawn j ≡ numbers rest j
+          by-length : (length rest ≤ j) ⊎ (j < length rest) → item drawn j ≡ item rest j
           by-length (inl q) =
               List·getD-eq-default drawn (pos 0) (N.le-trans (N.le-of-eq (length-tab (length rest) cell)) q)
               ∙ sym (List·getD-eq-default rest (pos 0) q)
@@ -76,19 +76,19 @@ module _ (p : List ℤ) (t w h r c : ℕ) (cs : List ℤ) (y x d i : ℕ) (wide 
               tab-at (pos 0) (length rest) cell j q
               ∙ second-false (ltb (j / t) (hOf x)) (ltb (j % t) (wOf x)) _ _ (beside fit j (e ∙ ap (λ n. n + j) (length-take-le start p room)))
 
-  pub pad-block : numbers (blockOf p t w h r c cs y x d .1) i ≡ numbers p i
+  pub pad-block : item (blockOf p t w h r c cs y x d .1) i ≡ item p i
   unfolding blockOf addOf
   pad-block = go (blockStands w h r c x) refl
     where
-      go : (b : Bool) → blockStands w h r c x ≡ b → numbers (cond b (fromOn start p (addOf strict rest t cs y x d)) (addOf strict [] t cs y x d .0, p) .1) i ≡ numbers p i
+      go : (b : Bool) → blockStands w h r c x ≡ b → item (cond b (fromOn start p (addOf strict rest t cs y x d)) (addOf strict [] t cs y x d .0, p) .1) i ≡ item p i
       go false e = refl
       go true e = by-answer (ℕ-discrete (addVerdict true rest t cs y x d .number) 0)
         where
           fit : c + wOf x ≤ w
           fit = stands-is w h r c (wOf x) (hOf x) (both (leb x 24) (standsOf w h r c (wOf x) (hOf x)) e .1) .0
 
-          by-answer : Dec (addVerdict true rest t cs y x d .number ≡ 0) → numbers (take start p ++ addOf strict rest t cs y x d .1) i ≡ numbers p i
+          by-answer : Dec (addVerdict true rest t cs y x d .number ≡ 0) → item (take start p ++ addOf strict rest t cs y x d .1) i ≡ item p i
           by-answer (yes z) =
-              ap (λ (a : Answer × List ℤ). numbers (take start p ++ a .1) i) (taken {A = List ℤ} (addVerdict true rest t cs y x d) rest drawn z) ∙ kept fit
+              ap (λ (a : Answer × List ℤ). item (take start p ++ a .1) i) (taken {A = List ℤ} (addVerdict true rest t cs y x d) rest drawn z) ∙ kept fit
           by-answer (no ne) =
-              ap (λ l. numbers (take start p ++ l) i) (left {A = List ℤ} (addVerdict true rest t cs y x d) rest drawn ne) ∙ ap (λ l. numbers l i) (take-append-drop start p)
+              ap (λ l. item (take start p ++ l) i) (left {A = List ℤ} (addVerdict true rest t cs y x d) rest drawn ne) ∙ ap (λ l. item l i) (take-append-drop start p)

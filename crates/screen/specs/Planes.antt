@@ -16,8 +16,7 @@ use lib.Dec.{leb}
 use lib.IntN.{ℤ, pos, negsuc}
 use lib.ListN.{length, getD, take, drop}
 use Rattle.answers.specs.declared.Answer.{Answer}
-use Rattle.whole.specs.Sums.{tab}
-use Rattle.lossless.specs.Gains.{numbers}
+use Rattle.whole.specs.Sums.{tab, item}
 use Rattle.verdicts.specs.Verdicts.{wOf, hOf}
 use Rattle.pixels.specs.Calls.{strict, addOf}
 
@@ -26,7 +25,7 @@ natural (pos n) = n
 natural (negsuc n) = 0
 
 abbrev pub argument : List ℤ → ℕ → ℕ
-argument list k = natural (numbers list k)
+argument list k = natural (item list k)
 
 abbrev pub standsOf : ℕ → ℕ → ℕ → ℕ → ℕ → ℕ → Bool
 standsOf width height row column w h = leb (column + w) width && leb (row + h) height
@@ -46,7 +45,7 @@ abbrev pub freshOf : ℕ → ℕ → ℤ → ℕ → ℤ
 freshOf stride width z i = cond (leb width (i % stride)) (mark i) z
 
 abbrev pub marked : ℕ → ℕ → List ℤ → List ℤ
-marked stride width p = tab (length p) (λ i. freshOf stride width (numbers p i) i)
+marked stride width p = tab (length p) (λ i. freshOf stride width (item p i) i)
 
 unfoldable pub blockOf : List ℤ → ℕ → ℕ → ℕ → ℕ → ℕ → List ℤ → ℕ → ℕ → ℕ → Answer × List ℤ
 blockOf p stride width height row column cs txtp tx depth =

@@ -11,11 +11,10 @@ use lib.Dec.{leb}
 use lib.IntN.{ℤ, pos, natAbs, _-ℤ_}
 use lib.ListN.{length, take, drop}
 use Rattle.whole.specs.Numbers.{highest}
-use Rattle.whole.specs.Sums.{tab}
+use Rattle.whole.specs.Sums.{tab, item}
 use Rattle.whole.specs.Search.{seek, cellAt}
 use Rattle.ranges.specs.Cells.{cellOk}
 use Rattle.wht.specs.Wht.{fwht}
-use Rattle.lossless.specs.Gains.{numbers}
 use Rattle.lossless.specs.Step.{place}
 use Rattle.lossless.specs.Wanted.{difference}
 use Rattle.screen.specs.Planes.{standsOf}
@@ -33,9 +32,9 @@ levelsTo depth stride width height row column p b l =
     cond (ready depth stride width height row column p) (fwht (difference p (place depth stride width row column) b)) l
 
 abbrev pub gapsOf : List ℤ → ℕ → ℕ → List ℤ → List ℤ
-gapsOf p start stride b = tab 16 (λ k. numbers b k -ℤ numbers p (cellAt start stride 4 k))
+gapsOf p start stride b = tab 16 (λ k. item b k -ℤ item p (cellAt start stride 4 k))
 
 pub record Near (p : List ℤ) (start stride : ℕ) (b : List ℤ) : Type 0 where
   pub count : length b ≡ 16
-  pub wanted : (k : ℕ) → k < 16 → natAbs (numbers b k) ≤ 4095
-  pub present : (k : ℕ) → k < 16 → natAbs (numbers p (cellAt start stride 4 k)) ≤ 4095
+  pub wanted : (k : ℕ) → k < 16 → natAbs (item b k) ≤ 4095
+  pub present : (k : ℕ) → k < 16 → natAbs (item p (cellAt start stride 4 k)) ≤ 4095

@@ -18,7 +18,7 @@ use borrow.Author.Tests.{lt-ltb, le-ltb}
 use lib.Dec.{eqb, ltb}
 use lib.IntN.{ℤ, pos, _+ℤ_, _*ℤ_, natAbs, *ℤ-zero, zero-*ℤ}
 use lib.ListN.{length, getD, take}
-use Rattle.whole.specs.Sums.{tab, dotZ, rowAt, colAt, place, denseC, Within}
+use Rattle.whole.specs.Sums.{tab, dotZ, rowAt, colAt, flipped, denseC, Within}
 use Rattle.whole.proofs.Cells.{under}
 use Rattle.whole.proofs.Fill.{length-tab, tab-at, filled-all, within-tab}
 use Rattle.tables.specs.Sizes.{cut}
@@ -139,6 +139,6 @@ module _ (n code : ℕ) (xs : List ℤ) (h : (i : ℕ) → getD xs i (pos 0) ≡
       by true q r s t = zeros (cut n) (λ m. dotZ (colAt (cut n) (dctTable n) m) xs) (λ m. none (colAt (cut n) (dctTable n) m)) x
       by false true r s t = zeros n (λ i. getD xs i (pos 0) *ℤ pos (factor n)) (λ i. ap (λ z. z *ℤ pos (factor n)) (h i) ∙ zero-*ℤ (pos (factor n))) x
       by false false true s t = zeros n (λ i. dotZ (rowAt n (adstTable n) i) xs) (λ i. none (rowAt n (adstTable n) i)) x
-      by false false false true t = zeros n (λ i. dotZ (rowAt n (flipadstTable n) (place (eqb n 8) n i)) xs) (λ i. none (rowAt n (flipadstTable n) (place (eqb n 8) n i))) x
+      by false false false true t = zeros n (λ i. dotZ (rowAt n (flipadstTable n) (flipped (eqb n 8) n i)) xs) (λ i. none (rowAt n (flipadstTable n) (flipped (eqb n 8) n i))) x
       by false false false false true = zeros n (λ i. dotZ (rowAt n (ddtTable n) i) xs) (λ i. none (rowAt n (ddtTable n) i)) x
-      by false false false false false = zeros n (λ i. dotZ (rowAt n (ddtTable n) (place true n i)) xs) (λ i. none (rowAt n (ddtTable n) (place true n i))) x
+      by false false false false false = zeros n (λ i. dotZ (rowAt n (ddtTable n) (flipped true n i)) xs) (λ i. none (rowAt n (ddtTable n) (flipped true n i))) x

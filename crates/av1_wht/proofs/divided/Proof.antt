@@ -8,11 +8,10 @@ use lib.Signed.{shrZ}
 use mir.Syntax.{w32}
 use mir.Val.{toZ, ofZ}
 use Rattle.whole.specs.Numbers.{floorDiv}
-use Rattle.whole.specs.Sums.{Within}
+use Rattle.whole.specs.Sums.{Within, item}
 use Rattle.whole.proofs.Fill.{Filling, fill-start, fill-more, fill-done}
 use Rattle.whole.proofs.Num.{Num, made, shifted, read}
 use Rattle.whole.proofs.Sums.{within-all}
-use Rattle.av1.specs.Steps.{item}
 use Rattle.av1_wht.proofs.divided.Statement.{statement}
 use Rattle.av1_wht.proofs.divided.Tie as tie
 

@@ -7,12 +7,13 @@ use borrow.Author.Needs.{needs}
 use borrow.Author.Tests.{eq-eqb, ne-eqb}
 use lib.IntN.{ℤ, pos, natAbs}
 use lib.ListN.{length, length-map}
+use Rattle.whole.specs.Sums.{item}
 use Rattle.answers.specs.declared.Answer.{Answer}
 use Rattle.answers.specs.Answers.{ends}
 use Rattle.answers.proofs.Endings.{same-number}
 use Rattle.wht.specs.Calls.{Sixteen}
 use Rattle.octets.proofs.Lists.{numbers-back}
-use Rattle.lossless.specs.Gains.{numbers, gained, samples}
+use Rattle.lossless.specs.Gains.{gained, samples}
 use Rattle.lossless.specs.Bounds.{change}
 use Rattle.lossless.specs.Step.{Step, attempt, spot, sample, front}
 use Rattle.lossless.proofs.Adding.{change-size}
@@ -34,7 +35,7 @@ abbrev F : tie.Start → Answer
 F s = front (length (Wide s)) (S s)
 
 abbrev G : tie.Start → ℕ → ℤ
-G s = numbers (change (s .args .undo) (s .args .level .now))
+G s = item (change (s .args .undo) (s .args .level .now))
 
 front-is : (c : tie.After-judge) → let s = c .before .before .before in c .judge .result ≡ F s
 front-is c = let s = c .before .before .before in c .judge .ensures ∙ ap (λ (n : ℕ). front n (S s)) (sym (length-map (s .args .plane .now) pos))
@@ -103,7 +104,7 @@ returns-3 c =
     let at = spot (S s .at) in
     rw (eq-eqb (s .args .depth) 8 (j .before .if1 .left))
     (b .gain .ensures
-    ∙ ap (λ (l : List ℤ). ends (samples (sample 8) at (Wide s) (numbers l)) p (map natAbs (gained at (numbers l) (Wide s)))) (r .changes .ensures)
+    ∙ ap (λ (l : List ℤ). ends (samples (sample 8) at (Wide s) (item l)) p (map natAbs (gained at (item l) (Wide s)))) (r .changes .ensures)
     ∙ ap (λ (d : ℕ). ends (samples (sample d) at (Wide s) (G s)) p (map natAbs (gained at (G s) (Wide s)))) (sym (j .before .if1 .left))
     ∙ sym (read-ends (samples (sample (s .args .depth)) at (Wide s) (G s)) p (gained at (G s) (Wide s)))
     ∙ ap readBack (sym (passed-call (F s) (sample (s .args .depth)) at (Wide s) (G s) (same-number (front-is j) (e .if2 .left)))))

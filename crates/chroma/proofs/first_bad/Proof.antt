@@ -9,9 +9,10 @@ use lib.ListN.{length}
 use mir.Syntax.{w32}
 use mir.Val.{toZ}
 use mir.ValLaws.{toZ-ofZ}
+use Rattle.whole.specs.Sums.{item}
 use Rattle.whole.specs.Search.{seek}
 use Rattle.whole.proofs.Search.{seek-start, seek-stop, seek-step, seek-end}
-use Rattle.chroma.specs.Chroma.{item, pairOk}
+use Rattle.chroma.specs.Chroma.{pairOk}
 use Rattle.chroma.proofs.first_bad.Statement.{statement}
 use Rattle.chroma.proofs.first_bad.Tie as tie
 

@@ -3,8 +3,8 @@ use mathlib.Core.Path.{_≡_, sym, _∙_}
 use borrow.Author.Needs.{needs}
 use mir.Syntax.{w32}
 use mir.ValLaws.{toZ-ofZ}
+use Rattle.whole.specs.Sums.{item}
 use Rattle.whole.specs.Numbers.{inRange}
-use Rattle.chroma.specs.Chroma.{item}
 use Rattle.chroma.proofs.out_of_range.Statement.{statement}
 use Rattle.chroma.proofs.out_of_range.Tie as tie
 

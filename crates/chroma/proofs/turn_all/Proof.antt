@@ -8,8 +8,9 @@ use lib.ListN.{length}
 use mir.Syntax.{w32}
 use mir.Val.{toZ, ofZ}
 use mir.ValLaws.{toZ-ofZ}
+use Rattle.whole.specs.Sums.{item}
 use Rattle.whole.proofs.Fill.{InPlace, place-start, place-more, place-now, place-done}
-use Rattle.chroma.specs.Chroma.{turnU, turnV, item}
+use Rattle.chroma.specs.Chroma.{turnU, turnV}
 use Rattle.chroma.proofs.turn_all.Statement.{statement}
 use Rattle.chroma.proofs.turn_all.Tie as tie
 

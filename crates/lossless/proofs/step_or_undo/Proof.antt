@@ -5,11 +5,12 @@ use Prim.Native.Nat.{_+_, _*_, _≤_}
 use native.Mathlib.Omega.{arith}
 use lib.IntN.{ℤ}
 use lib.ListN.{length}
+use Rattle.whole.specs.Sums.{item}
 use Rattle.answers.specs.declared.Answer.{Answer}
 use Rattle.answers.specs.Answers.{ends}
 use Rattle.answers.proofs.Endings.{same-number}
 use Rattle.wht.specs.Calls.{Sixteen}
-use Rattle.lossless.specs.Gains.{numbers, gained, samples}
+use Rattle.lossless.specs.Gains.{gained, samples}
 use Rattle.lossless.specs.Bounds.{change}
 use Rattle.lossless.specs.Step.{Step, attempt, spot, sample, front}
 use Rattle.lossless.proofs.Adding.{change-size}
@@ -43,7 +44,7 @@ returns : tie.Need-returns
 returns c =
     let d = c .before .before in
     let s = d .before in
-    refused-call (F s) (sample (s .args .depth)) (spot (S s .at)) (s .args .plane .now) (numbers (change (s .args .undo) (s .args .level .now))) (d .judge .ensures) (c .if1 .taken)
+    refused-call (F s) (sample (s .args .depth)) (spot (S s .at)) (s .args .plane .now) (item (change (s .args .undo) (s .args .level .now))) (d .judge .ensures) (c .if1 .taken)
 
 slice-aggregate-changes : tie.Need-slice-aggregate-changes
 slice-aggregate-changes c = search needs
@@ -80,8 +81,8 @@ returns-2 c =
     let p = s .args .plane .now in
     let w = S s .at in
     b .gain .ensures
-    ∙ ap (λ (l : List ℤ). ends (samples (sample (w .depth)) (spot w) p (numbers l)) p (gained (spot w) (numbers l) p)) (r .changes .ensures)
-    ∙ sym (passed-call (F s) (sample (s .args .depth)) (spot (S s .at)) p (numbers (change (s .args .undo) (s .args .level .now))) (done-is e))
+    ∙ ap (λ (l : List ℤ). ends (samples (sample (w .depth)) (spot w) p (item l)) p (gained (spot w) (item l) p)) (r .changes .ensures)
+    ∙ sym (passed-call (F s) (sample (s .args .depth)) (spot (S s .at)) p (item (change (s .args .undo) (s .args .level .now))) (done-is e))
 
 pub step-or-undo-spec : {M : Type 1} → statement M
 step-or-undo-spec =

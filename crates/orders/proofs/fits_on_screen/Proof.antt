@@ -3,7 +3,7 @@ use mathlib.Core.Path.{_∙_, subst}
 use Prim.Native.Nat.{ℕ, _≤_, _<_}
 use native.Mathlib.Omega.{arith}
 use borrow.Author.Needs.{needs}
-use Rattle.lossless.specs.Gains.{numbers}
+use Rattle.whole.specs.Sums.{item}
 use Rattle.screen.proofs.Planes.{natural-read}
 use Rattle.orders.proofs.Judged.{ordered-change, ordered-undo, ordered-who, ordered-other}
 use Rattle.orders.proofs.fits_on_screen.Statement.{statement}
@@ -79,7 +79,7 @@ returns-3 c =
     let l = q .list .now in
     let n = c .before in
     λ e. ordered-undo (q .command) (q .s) (q .remaining) l (s .pre .2) (s .pre .3) (c .before .before .before .match .keys3)
-    (subst (λ (k : ℕ). k ≤ q .remaining) (n .natural2 .ensures ∙ natural-read (numbers l 0) (record { sfits = n .before .natural-arg2 .given })) (c .fits-undo .ensures e))
+    (subst (λ (k : ℕ). k ≤ q .remaining) (n .natural2 .ensures ∙ natural-read (item l 0) (record { sfits = n .before .natural-arg2 .given })) (c .fits-undo .ensures e))
 
 returns-4 : tie.Need-returns-4
 returns-4 c =
@@ -97,8 +97,8 @@ returns-5 c =
     let y = c .before .before .before in
     let x = c .before in
     λ e. ordered-who (q .command) (q .s) (q .remaining) l (s .pre .2) (s .pre .3) (c .before .before .before .before .before .match .keys5) (
-      subst (λ (k : ℕ). k < q .s .height) (y .natural3 .ensures ∙ natural-read (numbers l 0) (record { sfits = y .before .natural-arg3 .given })) (c .fits-who .ensures e .0),
-      subst (λ (k : ℕ). k < q .s .width) (x .natural4 .ensures ∙ natural-read (numbers l 1) (record { sfits = x .before .natural-arg4 .given })) (c .fits-who .ensures e .1),
+      subst (λ (k : ℕ). k < q .s .height) (y .natural3 .ensures ∙ natural-read (item l 0) (record { sfits = y .before .natural-arg3 .given })) (c .fits-who .ensures e .0),
+      subst (λ (k : ℕ). k < q .s .width) (x .natural4 .ensures ∙ natural-read (item l 1) (record { sfits = x .before .natural-arg4 .given })) (c .fits-who .ensures e .1),
     )
 
 returns-6 : tie.Need-returns-6

@@ -2,7 +2,7 @@
 use mathlib.Core.Path.{sym, _∙_}
 use borrow.Author.Tests.{not-false}
 use borrow.Author.Needs.{needs}
-use Rattle.lossless.specs.Gains.{numbers}
+use Rattle.whole.specs.Sums.{item}
 use Rattle.screen.proofs.Planes.{natural-read}
 use Rattle.orders.proofs.Judged.{never, screen-is}
 use Rattle.orders.proofs.fits_screen.Statement.{statement}
@@ -60,10 +60,10 @@ returns-3 c =
     let d = c .before .before .before .before .before in
     let p = c .before .before .before in
     let l = c .before .before .before .before .before .before .before .before .before .before .before .args .list .now in
-    λ _. screen-is l (w .natural .ensures ∙ natural-read (numbers l 0) (record { sfits = w .before .natural-arg .given }))
-    (h .natural2 .ensures ∙ natural-read (numbers l 1) (record { sfits = h .before .natural-arg2 .given }))
-    (d .natural3 .ensures ∙ natural-read (numbers l 2) (record { sfits = d .before .natural-arg3 .given }))
-    (p .natural4 .ensures ∙ natural-read (numbers l 3) (record { sfits = p .before .natural-arg4 .given }))
+    λ _. screen-is l (w .natural .ensures ∙ natural-read (item l 0) (record { sfits = w .before .natural-arg .given }))
+    (h .natural2 .ensures ∙ natural-read (item l 1) (record { sfits = h .before .natural-arg2 .given }))
+    (d .natural3 .ensures ∙ natural-read (item l 2) (record { sfits = d .before .natural-arg3 .given }))
+    (p .natural4 .ensures ∙ natural-read (item l 3) (record { sfits = p .before .natural-arg4 .given }))
     (sym (c .before .before .possible .ensures) ∙ not-false _ (c .before .if1 .left)) (c .if2 .left)
 
 pub fits-screen-spec : {M : Type 1} → statement M

@@ -2,7 +2,7 @@
 use mathlib.Core.Path.{refl, _∙_}
 use borrow.Author.Needs.{needs}
 use lib.ListN.{length}
-use Rattle.lossless.specs.Gains.{numbers}
+use Rattle.whole.specs.Sums.{item}
 use Rattle.keeping.specs.Range.{area}
 use Rattle.history.specs.Calls.{lent}
 use Rattle.screen.proofs.Planes.{natural-read}
@@ -64,8 +64,8 @@ returns c =
     let n = c .before .before .before .before .before .before .before .before .before .before .before .before .before .before .before .before .before .before .before in
     let k = c .before .before .before .before .before .before .before .before .before .before .before .before .before .before .before .before .before in
     change-is (area (length (q .plane .now)) (q .stride) (q .width) (q .height)) (q .depth) (q .list .now) (lent (q .plane .now) (q .steps .now) (q .levels .now) (q .index .now))
-    (n .natural .ensures ∙ natural-read (numbers (q .list .now) 0) (record { sfits = n .before .natural-arg .given }))
-    (k .natural2 .ensures ∙ natural-read (numbers (q .list .now) 1) (record { sfits = k .before .natural-arg2 .given }))
+    (n .natural .ensures ∙ natural-read (item (q .list .now) 0) (record { sfits = n .before .natural-arg .given }))
+    (k .natural2 .ensures ∙ natural-read (item (q .list .now) 1) (record { sfits = k .before .natural-arg2 .given }))
     (c .before .before .before .before .before .before .before .before .before .before .before .before .before .levels-to .ensures) (c .before .before .before .before .before .before .history-step .ensures)
 
 pub change-spec : {M : Type 1} → statement M

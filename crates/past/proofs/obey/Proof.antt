@@ -2,7 +2,7 @@
 use mathlib.Core.Path.{ap, _∙_}
 use borrow.Author.Needs.{needs}
 use lib.ListN.{length}
-use Rattle.lossless.specs.Gains.{numbers}
+use Rattle.whole.specs.Sums.{item}
 use Rattle.keeping.specs.Range.{area}
 use Rattle.history.specs.Calls.{lent, withdrawOf}
 use Rattle.screen.proofs.Planes.{natural-read}
@@ -85,7 +85,7 @@ returns-3 c =
     let q = c .before .before .before .before .before .before .before .before .before .before .before .before .before .before .before .before .args in
     let n = c .before .before .before .before .before .before .before .before .before .before .before in
     c .before .before .before .before .before .before .history-withdraw .ensures
-    ∙ ap (λ k. withdrawOf (area (length (q .plane .now)) (q .stride) (q .width) (q .height)) k (lent (q .plane .now) (q .steps .now) (q .levels .now) (q .index .now))) (n .step-number .ensures ∙ natural-read (numbers (q .list .now) 0) (record { sfits = n .before .step-number-arg .given }))
+    ∙ ap (λ k. withdrawOf (area (length (q .plane .now)) (q .stride) (q .width) (q .height)) k (lent (q .plane .now) (q .steps .now) (q .levels .now) (q .index .now))) (n .step-number .ensures ∙ natural-read (item (q .list .now) 0) (record { sfits = n .before .step-number-arg .given }))
     ∙ is-withdrawal (area (length (q .plane .now)) (q .stride) (q .width) (q .height)) (q .command) (q .depth) (q .list .now) (lent (q .plane .now) (q .steps .now) (q .levels .now) (q .index .now)) (c .before .before .before .before .before .before .before .before .before .before .before .before .before .match .keys3)
 
 same-length-13 : tie.Need-same-length-13

@@ -10,13 +10,13 @@ use lib.ListN.{set}
 use mir.Syntax.{w32}
 use mir.Val.{toZ, ofZ}
 use mir.ValLaws.{toZ-ofZ}
+use Rattle.whole.specs.Sums.{item}
 use Rattle.whole.specs.Numbers.{inRange}
 use Rattle.whole.proofs.Num.{Num, made, plus, minus, ask, read}
 use Rattle.answers.specs.declared.Answer.{Answer}
 use Rattle.answers.specs.Answers.{refused}
 use Rattle.answers.proofs.Verdicts.{opens, stops}
 use Rattle.answers.proofs.Endings.{ends-refused, ends-done}
-use Rattle.av1.specs.Steps.{item}
 use borrow.Author.Needs.{needs}
 use Rattle.av1.proofs.steps.sums.Statement.{statement}
 use Rattle.av1.proofs.steps.sums.Tie as tie

@@ -10,18 +10,19 @@ use lib.ListN.{length, getD, set, length-map, List·getD-map}
 use mir.Syntax.{w32}
 use mir.Val.{toZ, ofZ}
 use mir.ValLaws.{toZ-ofZ}
+use Rattle.whole.specs.Sums.{item}
 use Rattle.whole.specs.Search.{cellAt}
 use Rattle.whole.proofs.Cells.{cell-apart}
 use Rattle.octets.specs.Octets.{isByte}
 use Rattle.octets.proofs.Lists.{numbers-back, map-set}
-use Rattle.lossless.specs.Gains.{numbers, addOn, gain}
+use Rattle.lossless.specs.Gains.{addOn, gain}
 use Rattle.lossless.proofs.Adding.{cell-lies}
 use Rattle.lossless.proofs.Gains.{length-addOn, still, addOn-next, gain-start}
 use Rattle.bytesteps.proofs.block.add.Statement.{statement}
 use Rattle.bytesteps.proofs.block.add.Tie as tie
 
 abbrev Inv-loop : tie.InvT-loop
-Inv-loop plane₀ gains start stride k₀ plane k = (k ≤ 16) × (plane ≡ map natAbs (addOn (gain (cellAt start stride 4) (numbers gains) k) (map pos plane₀)))
+Inv-loop plane₀ gains start stride k₀ plane k = (k ≤ 16) × (plane ≡ map natAbs (addOn (gain (cellAt start stride 4) (item gains) k) (map pos plane₀)))
 
 abbrev μ-loop : tie.MeasureT-loop
 μ-loop plane₀ gains start stride k₀ plane k = 16 - k
@@ -32,7 +33,7 @@ module _ (s : tie.Start Inv-loop μ-loop) where
   Cell = cellAt (s .args .start) (s .args .stride) 4
 
   abbrev G : ℕ → ℤ
-  G = numbers (s .args .gains .now)
+  G = item (s .args .gains .now)
 
   abbrev Wide : List ℤ
   Wide = map pos (s .args .plane .now)
@@ -62,7 +63,7 @@ module _ (c : tie.After-spot-of Inv-loop μ-loop) where
       rw (c .spot-of .ensures) (subst (λ (n : ℕ). Cell s (l .loop .k) < n) (sym (ap length (l .loop .inv .1) ∙ now-length s (l .loop .k))) (lies (c .before)))
 
   -- the byte there is as it was
-  here : let l = c .before .before in let s = l .before .before in pos (getD (l .loop .plane) (c .spot-of .result) 0) ≡ numbers (Wide s) (Cell s (l .loop .k))
+  here : let l = c .before .before in let s = l .before .before in pos (getD (l .loop .plane) (c .spot-of .result) 0) ≡ item (Wide s) (Cell s (l .loop .k))
   here =
       let l = c .before .before in
       let s = l .before .before in
@@ -75,7 +76,7 @@ module _ (c : tie.After-spot-of Inv-loop μ-loop) where
 
 -- the sum, as the code has it
 sum-is : (c : tie.After-raised-arg Inv-loop μ-loop) → let d = c .before .before in let l = d .before .before in let s = l .before .before in
-    pos (getD (l .loop .plane) (d .spot-of .result) 0) +ℤ toZ w32 (ofZ w32 (getD (s .args .gains .now) (l .loop .k) (pos 0))) ≡ numbers (Wide s) (Cell s (l .loop .k)) +ℤ G s (l .loop .k)
+    pos (getD (l .loop .plane) (d .spot-of .result) 0) +ℤ toZ w32 (ofZ w32 (getD (s .args .gains .now) (l .loop .k) (pos 0))) ≡ item (Wide s) (Cell s (l .loop .k)) +ℤ G s (l .loop .k)
 sum-is c =
     let d = c .before .before in
     let l = d .before .before in
@@ -122,7 +123,7 @@ loop-again c =
     let l = d .before .before in
     let s = l .before .before in
     let k = l .loop .k in
-    let y = numbers (Wide s) (Cell s k) +ℤ G s k in (
+    let y = item (Wide s) (Cell s k) +ℤ G s k in (
       omega arith,
       ap (λ z. set (l .loop .plane) (d .spot-of .result) z) (c .raised .ensures ∙ ap natAbs (sum-is a))
           ∙ ap (λ i. set (l .loop .plane) i (natAbs y)) (d .spot-of .ensures)

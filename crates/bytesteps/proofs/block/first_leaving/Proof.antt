@@ -10,9 +10,10 @@ use lib.ListN.{length, getD, List·getD-map}
 use mir.Syntax.{w32}
 use mir.Val.{toZ, ofZ}
 use mir.ValLaws.{toZ-ofZ}
+use Rattle.whole.specs.Sums.{item}
 use Rattle.whole.specs.Search.{seek, cellAt}
 use Rattle.octets.specs.Octets.{isByte}
-use Rattle.lossless.specs.Gains.{numbers, laterOk}
+use Rattle.lossless.specs.Gains.{laterOk}
 use Rattle.lossless.specs.Step.{sample}
 use Rattle.lossless.proofs.Adding.{cell-lies}
 use Rattle.bytesteps.proofs.Sums.{seek-before}
@@ -22,7 +23,7 @@ use Rattle.bytesteps.proofs.block.first_leaving.Tie as tie
 abbrev Inv-loop : tie.InvT-loop
 Inv-loop plane gains start stride found₀ k₀ found k =
     (k ≤ 16)
-    × (found ≡ seek (laterOk (sample 8) (cellAt start stride 4) (map pos plane) (numbers gains)) k (16 - k))
+    × (found ≡ seek (laterOk (sample 8) (cellAt start stride 4) (map pos plane) (item gains)) k (16 - k))
     × ((j : ℕ) → k ≤ j → j < 16 → getD plane (cellAt start stride 4 j) 0 ≤ 255)
 
 abbrev μ-loop : tie.MeasureT-loop
@@ -33,7 +34,7 @@ abbrev Cell : tie.Start Inv-loop μ-loop → ℕ → ℕ
 Cell s = cellAt (s .args .start) (s .args .stride) 4
 
 abbrev G : tie.Start Inv-loop μ-loop → ℕ → ℤ
-G s = numbers (s .args .gains .now)
+G s = item (s .args .gains .now)
 
 abbrev Ok : tie.Start Inv-loop μ-loop → ℕ → Bool
 Ok s = laterOk (sample 8) (Cell s) (map pos (s .args .plane .now)) (G s)

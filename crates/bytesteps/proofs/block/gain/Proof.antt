@@ -6,13 +6,14 @@ use Prim.Native.Nat.{ℕ, _<_}
 use native.Mathlib.Omega.{arith}
 use borrow.Author.Needs.{needs}
 use lib.IntN.{ℤ, pos, natAbs}
+use Rattle.whole.specs.Sums.{item}
 use Rattle.whole.specs.Search.{seek, cellAt}
 use Rattle.whole.proofs.Search.{seek-passed}
 use Rattle.answers.specs.declared.Answer.{Answer}
 use Rattle.answers.specs.Answers.{done, refused}
 use Rattle.answers.proofs.Endings.{ends-refused, ends-done}
 use Rattle.answers.proofs.Verdicts.{search-stops}
-use Rattle.lossless.specs.Gains.{numbers, gained, laterOk}
+use Rattle.lossless.specs.Gains.{gained, laterOk}
 use Rattle.lossless.specs.Step.{sample}
 use Rattle.lossless.proofs.Blocks.{passed}
 use Rattle.bytesteps.proofs.Sums.{present-bytes, no-eight}
@@ -24,7 +25,7 @@ abbrev Cell : tie.Start → ℕ → ℕ
 Cell s = cellAt (s .args .start) (s .args .stride) 4
 
 abbrev G : tie.Start → ℕ → ℤ
-G s = numbers (s .args .gains .now)
+G s = item (s .args .gains .now)
 
 abbrev Wide : tie.Start → List ℤ
 Wide s = map pos (s .args .plane .now)

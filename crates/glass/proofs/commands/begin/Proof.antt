@@ -2,7 +2,7 @@
 use mathlib.Core.Path.{_∙_}
 use native.Mathlib.Omega.{arith}
 use borrow.Author.Needs.{needs}
-use Rattle.lossless.specs.Gains.{numbers}
+use Rattle.whole.specs.Sums.{item}
 use Rattle.screen.specs.Screens.{possibleOf}
 use Rattle.screen.proofs.Planes.{natural-read}
 use Rattle.glass.proofs.commands.begin.Statement.{statement}
@@ -43,8 +43,8 @@ begin-requires c κs =
     let h = c .before .before .before .before .before .before .before .before in
     let d = c .before .before .before .before .before .before in
     let p = c .before .before .before .before in
-    let pad-is = (p .natural4 .ensures ∙ natural-read (numbers l 3) (record { sfits = p .before .natural-arg4 .given })) in (
-      (λ i. possibleOf ((w .natural .ensures ∙ natural-read (numbers l 0) (record { sfits = w .before .natural-arg .given })) i) ((h .natural2 .ensures ∙ natural-read (numbers l 1) (record { sfits = h .before .natural-arg2 .given })) i) ((d .natural3 .ensures ∙ natural-read (numbers l 2) (record { sfits = d .before .natural-arg3 .given })) i)) ∙ s .pre .0 .0,
+    let pad-is = (p .natural4 .ensures ∙ natural-read (item l 3) (record { sfits = p .before .natural-arg4 .given })) in (
+      (λ i. possibleOf ((w .natural .ensures ∙ natural-read (item l 0) (record { sfits = w .before .natural-arg .given })) i) ((h .natural2 .ensures ∙ natural-read (item l 1) (record { sfits = h .before .natural-arg2 .given })) i) ((d .natural3 .ensures ∙ natural-read (item l 2) (record { sfits = d .before .natural-arg3 .given })) i)) ∙ s .pre .0 .0,
       omega (arith, pad-is, s .pre .0 .1),
       s .pre .1 .0,
       s .pre .1 .1,

@@ -3,8 +3,8 @@ use mathlib.Core.Path.{sym, ap, _∙_, subst}
 use Prim.Native.Nat.{ℕ, _≤_}
 use borrow.Author.Needs.{needs}
 use lib.ListN.{length}
+use Rattle.whole.specs.Sums.{item}
 use Rattle.answers.specs.declared.Answer.{Answer}
-use Rattle.lossless.specs.Gains.{numbers}
 use Rattle.remain.specs.Remaining.{count}
 use Rattle.keeping.specs.Range.{area}
 use Rattle.history.specs.Calls.{Lent, lent}
@@ -25,7 +25,7 @@ undo-some-requires c κs =
     let s = c .before .before .before .before .before .before .before .before .before in
     let l = s .args .list .now in
     let n = c .before .before .before .before in
-    (s .pre .1 .0, subst (λ (k : ℕ). k ≤ count (s .args .steps .now)) (sym (n .natural .ensures ∙ natural-read (numbers l 0) (record { sfits = n .before .natural-arg .given }))) (s .pre .1 .1 (c .before .before .before .before .before .before .if1 .taken)))
+    (s .pre .1 .0, subst (λ (k : ℕ). k ≤ count (s .args .steps .now)) (sym (n .natural .ensures ∙ natural-read (item l 0) (record { sfits = n .before .natural-arg .given }))) (s .pre .1 .1 (c .before .before .before .before .before .before .if1 .taken)))
 
 same-length : tie.Need-same-length
 same-length c = search needs
@@ -44,7 +44,7 @@ returns c =
     let q = c .before .before .before .before .before .before .before .before .before .before .before .before .before .before .before .before .args in
     let l = q .list .now in
     let n = c .before .before .before .before .before .before .before .before .before .before .before in
-    c .before .before .before .before .before .before .undo-some .ensures ∙ ap (λ k. undone (area (length (q .plane .now)) (q .s .stride) (q .s .width) (q .s .height)) k (lent (q .plane .now) (q .steps .now) (q .levels .now) (q .index .now))) (n .natural .ensures ∙ natural-read (numbers l 0) (record { sfits = n .before .natural-arg .given })) ∙ after-undo (area (length (q .plane .now)) (q .s .stride) (q .s .width) (q .s .height)) (lent (q .plane .now) (q .steps .now) (q .levels .now) (q .index .now)) (q .command) (q .s .depth) l (c .before .before .before .before .before .before .before .before .before .before .before .before .before .if1 .taken)
+    c .before .before .before .before .before .before .undo-some .ensures ∙ ap (λ k. undone (area (length (q .plane .now)) (q .s .stride) (q .s .width) (q .s .height)) k (lent (q .plane .now) (q .steps .now) (q .levels .now) (q .index .now))) (n .natural .ensures ∙ natural-read (item l 0) (record { sfits = n .before .natural-arg .given })) ∙ after-undo (area (length (q .plane .now)) (q .s .stride) (q .s .width) (q .s .height)) (lent (q .plane .now) (q .steps .now) (q .levels .now) (q .index .now)) (q .command) (q .s .depth) l (c .before .before .before .before .before .before .before .before .before .before .before .before .before .if1 .taken)
 
 obey-requires : tie.Need-obey-requires
 obey-requires c κs = search needs

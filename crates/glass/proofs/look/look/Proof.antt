@@ -2,7 +2,7 @@
 use mathlib.Core.Path.{sym, _∙_, subst}
 use Prim.Native.Nat.{ℕ, _<_}
 use borrow.Author.Needs.{needs}
-use Rattle.lossless.specs.Gains.{numbers}
+use Rattle.whole.specs.Sums.{item}
 use Rattle.screen.proofs.Planes.{natural-read}
 use Rattle.glass.proofs.look.look.Statement.{statement}
 use Rattle.glass.proofs.look.look.Tie as tie
@@ -40,8 +40,8 @@ who-requires c κs =
     let l = s .args .list .now in
     let y = c .before .before in
     let i = s .pre .inside (c .before .before .before .before .match .keys5) in (
-      subst (λ (n : ℕ). n < s .args .s .height) (sym (y .natural .ensures ∙ natural-read (numbers l 0) (record { sfits = y .before .natural-arg .given }))) (i .0),
-      subst (λ (n : ℕ). n < s .args .s .width) (sym (c .natural2 .ensures ∙ natural-read (numbers l 1) (record { sfits = c .before .natural-arg2 .given }))) (i .1),
+      subst (λ (n : ℕ). n < s .args .s .height) (sym (y .natural .ensures ∙ natural-read (item l 0) (record { sfits = y .before .natural-arg .given }))) (i .0),
+      subst (λ (n : ℕ). n < s .args .s .width) (sym (c .natural2 .ensures ∙ natural-read (item l 1) (record { sfits = c .before .natural-arg2 .given }))) (i .1),
       s .pre .sound .high,
       s .pre .sound .narrow,
       s .pre .cells,

@@ -1,9 +1,10 @@
 -- `history::calls::judge` meets its contract: 8 and 10, then the answer that follows. Assumes nothing.
 use mathlib.Core.Path.{sym, ap, _∙_}
+use Rattle.whole.specs.Sums.{item}
 use Rattle.answers.specs.declared.Answer.{Answer}
 use Rattle.answers.proofs.Endings.{same-number}
 use Rattle.whole.specs.Search.{cellAt}
-use Rattle.lossless.specs.Gains.{numbers, samples}
+use Rattle.lossless.specs.Gains.{samples}
 use Rattle.lossless.specs.Step.{sample}
 use Rattle.history.proofs.Parts.{then-stops, then-opens}
 use borrow.Author.Needs.{needs}
@@ -11,7 +12,7 @@ use Rattle.history.proofs.calls.judge.Statement.{statement}
 use Rattle.history.proofs.calls.judge.Tie as tie
 
 abbrev Judged : tie.Start → Answer
-Judged s = samples (sample (s .args .depth)) (cellAt (s .args .start) (s .args .stride) 4) (s .args .plane .now) (numbers (s .args .gains .now))
+Judged s = samples (sample (s .args .depth)) (cellAt (s .args .start) (s .args .stride) 4) (s .args .plane .now) (item (s .args .gains .now))
 
 judge-requires : tie.Need-judge-requires
 judge-requires c κs = search needs

@@ -4,9 +4,10 @@ use mathlib.Core.Bool.{true}
 use Prim.Native.Nat.{ℕ, _+_, _*_, _≤_}
 use native.Mathlib.Omega.{arith}
 use lib.ListN.{getD}
+use Rattle.whole.specs.Sums.{item}
 use Rattle.whole.specs.Search.{cellAt}
 use Rattle.wht.specs.Calls.{Sixteen}
-use Rattle.lossless.specs.Gains.{numbers, samples}
+use Rattle.lossless.specs.Gains.{samples}
 use Rattle.lossless.specs.Step.{sample}
 use Rattle.lossless.proofs.Adding.{change-size}
 use borrow.Author.Needs.{needs}
@@ -52,7 +53,7 @@ returns : tie.Need-returns
 returns c =
     let s = c .before .before .before .before .before .before .before .before in
     c .judge .ensures
-    ∙ (λ k. samples (sample (getD (s .args .s .now) (place-is (s .args .i) k) 0)) (cellAt (c .before .before .before .before .before .before .start-of .ensures k) (s .args .stride) 4) (s .args .plane .now) (numbers (c .before .before .before .losses .ensures k)))
+    ∙ (λ k. samples (sample (getD (s .args .s .now) (place-is (s .args .i) k) 0)) (cellAt (c .before .before .before .before .before .before .start-of .ensures k) (s .args .stride) 4) (s .args .plane .now) (item (c .before .before .before .losses .ensures k)))
 
 pub judge-out-spec : {M : Type 1} → statement M
 judge-out-spec =

@@ -7,6 +7,7 @@ use native.Mathlib.Nat.{le-trans}
 use borrow.Author.Tests.{ltb-true}
 use lib.Dec.{ltb}
 use lib.ListN.{length}
+use Rattle.whole.specs.Sums.{item}
 use Rattle.answers.specs.declared.Answer.{Answer}
 use Rattle.answers.specs.Answers.{done, refused, unless}
 use Rattle.answers.proofs.Endings.{same-number, ends-refused, ends-done}
@@ -15,7 +16,7 @@ use Rattle.whole.proofs.Tests.{both}
 use Rattle.wht.specs.Calls.{Sixteen}
 use Rattle.wht.specs.Wht.{iwht}
 use Rattle.lossless.specs.Bounds.{Addable}
-use Rattle.lossless.specs.Gains.{numbers, gained, samples}
+use Rattle.lossless.specs.Gains.{gained, samples}
 use Rattle.lossless.specs.Step.{sample}
 use Rattle.lossless.proofs.Adding.{sample-size, change-size}
 use Rattle.lossless.proofs.Blocks.{passes}
@@ -50,14 +51,14 @@ verdict-is : (c : tie.After-judge) → c .judge .result ≡ verdict (c .before .
 verdict-is c =
     let s = c .before .before .before .before .before .before .before .before .before .before in
     c .judge .ensures
-    ∙ (λ i. andThen (samples (sample (s .args .depth)) (spots (s .args .stride) (s .args .row) (s .args .column)) (s .args .plane .now) (numbers (c .before .before .before .before .before .before .changes .ensures i))) (c .before .full .ensures i))
+    ∙ (λ i. andThen (samples (sample (s .args .depth)) (spots (s .args .stride) (s .args .row) (s .args .column)) (s .args .plane .now) (item (c .before .before .before .before .before .before .changes .ensures i))) (c .before .full .ensures i))
 
 module _ (c : tie.Else1) where
   parts : let s = c .before .before .before .before .before .before .before .before .before .before .before .before in
-      (samples (sample (s .args .depth)) (spots (s .args .stride) (s .args .row) (s .args .column)) (s .args .plane .now) (numbers (iwht (s .args .level .now))) .number ≡ 0)
+      (samples (sample (s .args .depth)) (spots (s .args .stride) (s .args .row) (s .args .column)) (s .args .plane .now) (item (iwht (s .args .level .now))) .number ≡ 0)
       × (unless (room (s .args .s .now)) (refused 14 0 0) done .number ≡ 0)
   parts = let s = c .before .before .before .before .before .before .before .before .before .before .before .before in
-      then-passed (samples (sample (s .args .depth)) (spots (s .args .stride) (s .args .row) (s .args .column)) (s .args .plane .now) (numbers (iwht (s .args .level .now)))) (unless (room (s .args .s .now)) (refused 14 0 0) done)
+      then-passed (samples (sample (s .args .depth)) (spots (s .args .stride) (s .args .row) (s .args .column)) (s .args .plane .now) (item (iwht (s .args .level .now)))) (unless (room (s .args .s .now)) (refused 14 0 0) done)
       (same-number (verdict-is (c .before .before)) (c .if1 .left))
 
   roomy : let s = c .before .before .before .before .before .before .before .before .before .before .before .before in (count (s .args .s .now) < 4096) × (numberBefore (s .args .s .now) (count (s .args .s .now)) < 4294967295)
@@ -71,8 +72,8 @@ module _ (c : tie.Else1) where
   addable =
       let s = c .before .before .before .before .before .before .before .before .before .before .before .before in
       let at = spots (s .args .stride) (s .args .row) (s .args .column) in
-      let t = passes (sample (s .args .depth)) at (s .args .plane .now) (numbers (iwht (s .args .level .now))) (parts .0) in
-      (record { reach = fronts s .stand .reach; small = λ k h. sample-size (s .args .depth) (numbers (s .args .plane .now) (at k)) (fronts s .deep .1) (t .present k h); gains = gains-small (c .before .before .before .before .before .before .before .before) }, shape s .stride4)
+      let t = passes (sample (s .args .depth)) at (s .args .plane .now) (item (iwht (s .args .level .now))) (parts .0) in
+      (record { reach = fronts s .stand .reach; small = λ k h. sample-size (s .args .depth) (item (s .args .plane .now) (at k)) (fronts s .deep .1) (t .present k h); gains = gains-small (c .before .before .before .before .before .before .before .before) }, shape s .stride4)
 
 mul-start : tie.Need-mul-start
 mul-start c = let s = c .before .before in record { fits = omega (arith, start-small (shape s) (fronts s .stand) .0) }
@@ -136,7 +137,7 @@ returns-2 c =
     let e = c .before .before .before .before .before .before .before .before .before .before .before .before .before in
     let s = e .before .before .before .before .before .before .before .before .before .before .before .before in
     let w = c .before .before .before .before .before .append .ensures in
-    let p = c .before .before .before .before .before .before .before .before .before .before .add .ensures ∙ ap (λ g. gained (spots (s .args .stride) (s .args .row) (s .args .column)) (numbers g) (s .args .plane .now)) (c .before .before .before .before .before .before .before .before .before .before .before .before .before .before .before .before .before .before .before .before .before .changes .ensures) in
+    let p = c .before .before .before .before .before .before .before .before .before .before .add .ensures ∙ ap (λ g. gained (spots (s .args .stride) (s .args .row) (s .args .column)) (item g) (s .args .plane .now)) (c .before .before .before .before .before .before .before .before .before .before .before .before .before .before .before .before .before .before .before .before .before .changes .ensures) in
     ends-done (verdict-is (e .before .before)) (found s) (e .if1 .left) (λ i. lent (p i) (w .0 i) (w .1 i) (w .2 i))
 
 pub step-spec : {M : Type 1} → statement M

@@ -4,9 +4,10 @@ use mathlib.Core.Bool.{true}
 use Prim.Native.Nat.{ℕ, _≤_}
 use native.Mathlib.Omega.{arith}
 use lib.IntN.{natAbs}
+use Rattle.whole.specs.Sums.{item}
 use Rattle.whole.specs.Search.{cellAt}
 use Rattle.wht.specs.Calls.{Sixteen}
-use Rattle.lossless.specs.Gains.{numbers, gained}
+use Rattle.lossless.specs.Gains.{gained}
 use Rattle.lossless.specs.Step.{sample}
 use Rattle.lossless.proofs.Adding.{sample-size, change-size}
 use Rattle.lossless.proofs.Blocks.{passes}
@@ -36,10 +37,10 @@ add-requires c κs =
     let at = spots (s .args .stride) (word (s .args .s .now) (s .args .i) 2) (word (s .args .s .now) (s .args .i) 3) in
     let p = s .args .plane .now in
     let n = c .before .before .before .before .before .before .start-of .ensures in
-    let t = passes (sample d) at p (numbers (losses (levelsAt (s .args .l .now) (s .args .i)))) (s .pre .1 .1) in (
+    let t = passes (sample d) at p (item (losses (levelsAt (s .args .l .now) (s .args .i)))) (s .pre .1 .1) in (
       record {
         reach = omega (arith, n, q .reach);
-        small = λ k h. subst (λ (z : ℕ). natAbs (numbers p (cellAt z (s .args .stride) 4 k)) ≤ 4095) (sym n) (sample-size d (numbers p (at k)) (q .deep) (t .present k h));
+        small = λ k h. subst (λ (z : ℕ). natAbs (item p (cellAt z (s .args .stride) 4 k)) ≤ 4095) (sym n) (sample-size d (item p (at k)) (q .deep) (t .present k h));
         gains = subst (Sixteen 1048576) (sym (c .before .before .before .losses .ensures)) (change-size true (q .sixteen));
       },
       q .wide,
@@ -66,7 +67,7 @@ returns c =
     let n = c .before .before .before .before .before .before .before .before .before .before .before .before .before .before .before .before .before .start-of .ensures in
     let g = c .before .before .before .before .before .before .before .before .before .before .before .before .before .before .losses .ensures in
     let w = c .before .before .before .before .before .drop-step .ensures in
-    let p = c .before .before .before .before .before .before .before .before .before .before .add .ensures ∙ (λ k. gained (cellAt (n k) (s .args .stride) 4) (numbers (g k)) (s .args .plane .now)) in
+    let p = c .before .before .before .before .before .before .before .before .before .before .add .ensures ∙ (λ k. gained (cellAt (n k) (s .args .stride) 4) (item (g k)) (s .args .plane .now)) in
     λ k. lent (p k) (w .0 k) (w .1 k) (w .2 k)
 
 pub take-out-spec : {M : Type 1} → statement M

@@ -1,5 +1,5 @@
 -- `lanes::dct::g_dct4` meets its contract: the records that are not live are zeros. Assumes nothing.
-use mathlib.Core.Path.{_≡_, sym, ap, _∙_, subst}
+use mathlib.Core.Path.{sym, ap, _∙_, subst}
 use Prim.Native.Nat.{_^_}
 use borrow.Author.Needs.{needs}
 use Rattle.whole.specs.Sums.{denseC, Within}

@@ -6,7 +6,7 @@ use native.Mathlib.Omega.{arith}
 use native.Mathlib.Nat as N
 use lib.IntN.{ℤ}
 use lib.ListN.{length, take, drop, length-take}
-use Rattle.whole.specs.Sums.{dotZ, spread, rowAt, place}
+use Rattle.whole.specs.Sums.{dotZ, spread, rowAt, flipped}
 use Rattle.whole.proofs.Sums.{dot-take, spread-take}
 use Rattle.whole.proofs.Tables.{row-end}
 use Rattle.whole.proofs.Parts.{row-room}
@@ -16,7 +16,7 @@ use Rattle.lanes.proofs.dst.g_rows.Statement.{statement}
 use Rattle.lanes.proofs.dst.g_rows.Tie as tie
 
 abbrev Inv-loop : tie.InvT-loop
-Inv-loop c n mat flip r₀ i₀ r i = LaneFill lane n (λ k x. dotZ (rowAt n mat (place flip n x)) (take n (cols k c))) r i
+Inv-loop c n mat flip r₀ i₀ r i = LaneFill lane n (λ k x. dotZ (rowAt n mat (flipped flip n x)) (take n (cols k c))) r i
 
 abbrev μ-loop : tie.MeasureT-loop
 μ-loop c n mat flip r₀ i₀ r i = n - i

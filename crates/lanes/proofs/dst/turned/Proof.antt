@@ -1,7 +1,7 @@
 -- `lanes::dst::turned` meets its contract, by the flag. Assumes nothing.
 use mathlib.Core.Path.{ap, sym}
 use native.Mathlib.Omega.{arith}
-use Rattle.whole.specs.Sums.{place}
+use Rattle.whole.specs.Sums.{flipped}
 use borrow.Author.Needs.{needs}
 use Rattle.lanes.proofs.dst.turned.Statement.{statement}
 use Rattle.lanes.proofs.dst.turned.Tie as tie
@@ -13,7 +13,7 @@ sub-result-2 : tie.Need-sub-result-2
 sub-result-2 c = search needs
 
 returns : tie.Need-returns
-returns c = (ap (λ b. place b (c .before .args .n) (c .before .args .i)) (sym (c .if1 .taken)), omega arith)
+returns c = (ap (λ b. flipped b (c .before .args .n) (c .before .args .i)) (sym (c .if1 .taken)), omega arith)
 
 returns-2 : tie.Need-returns-2
 returns-2 c = search needs

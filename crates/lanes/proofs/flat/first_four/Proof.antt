@@ -1,21 +1,19 @@
 -- `lanes::flat::first_four` meets its contract: one output is the first input times 64, and the odd halves of 2 and 4 are joined to it. Assumes nothing.
-use mathlib.Core.Path.{_≡_, refl, sym, ap, _∙_, subst}
+use mathlib.Core.Path.{refl, sym, ap, _∙_, subst}
 use mathlib.Core.List.{List, [], _∷_}
-use Prim.Native.Nat.{ℕ, _+_, _*_, _^_, _≤_, _<_}
+use Prim.Native.Nat.{ℕ, _+_, _^_, _≤_}
 use native.Mathlib.Nat as N
 use native.Mathlib.Omega.{arith}
 use borrow.Author.Needs.{needs}
 use lib.Dec.{lit<, lit≤}
 use lib.IntN.{ℤ, pos, natAbs, _*ℤ_}
-use lib.ListN.{length, getD, set, take}
-use mir.Syntax.{w32}
-use mir.Val.{SFits}
-use Rattle.whole.specs.Sums.{dotZ, mulʳ, unit, foldRow}
+use lib.ListN.{length, take}
+use Rattle.whole.specs.Sums.{unit, foldRow}
 use Rattle.whole.proofs.Sums.{dot-mul, dot-unit, within-all}
 use Rattle.whole.proofs.Butterfly.{Holds}
 use Rattle.whole.proofs.Parts.{join-room, join-holds}
 use Rattle.lanes.specs.View.{lane, cols}
-use Rattle.lanes.specs.Flat.{lanesOf, flat, firstRow, oddRow, oddsOf, half2, half4}
+use Rattle.lanes.specs.Flat.{lanesOf, flat, firstRow, oddRow, half2, half4}
 use Rattle.lanes.specs.declared.Lane.{Lane}
 use Rattle.lanes.proofs.Headed.{prod-fits}
 use Rattle.lanes.proofs.Flats.{count-low, count-high, first-put, odd-holds, QuarterOk, quarter-ok}

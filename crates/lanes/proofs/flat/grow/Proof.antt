@@ -5,12 +5,10 @@ use Prim.Native.Nat.{ℕ, _+_, _*_, _-_, _≤_, _<_}
 use native.Mathlib.Omega.{arith}
 use lib.IntN.{ℤ, pos}
 use lib.ListN.{length, getD, set, take}
-use lib.Seq.{getD-take}
 use Rattle.whole.specs.Sums.{dotZ, foldAt}
-use Rattle.whole.proofs.Inward.{mirror}
 use Rattle.whole.proofs.Fill.{tab-at}
 use Rattle.tables.proofs.LiveLanes.{fold-done}
-use Rattle.lanes.specs.View.{lane, cols}
+use Rattle.lanes.specs.View.{lane}
 use Rattle.lanes.specs.Flat.{lanesOf, flat, oddRow, oddsOf}
 use Rattle.lanes.specs.declared.Lane.{Lane}
 use Rattle.lanes.proofs.Flats.{count-low, turn-add, turn-sub, turn-sum, turn-diff, Growing, grow-start, grow-more, grow-now}

@@ -1,7 +1,7 @@
 -- `lanes::flat::laid` meets its contract: after i turns the first i records are stored, and the others are zeros. Assumes nothing.
 use mathlib.Core.Path.{_≡_, refl, sym, _∙_, subst}
 use mathlib.Core.List.{List}
-use Prim.Native.Nat.{ℕ, _+_, _-_}
+use Prim.Native.Nat.{_+_, _-_}
 use native.Mathlib.Omega.{arith}
 use lib.ListN.{length}
 use Rattle.whole.proofs.Lanes.{col-at}

@@ -1,18 +1,16 @@
 -- `lanes::flat::last` meets its contract: after m turns the first m and the last m records hold the join. Assumes nothing.
-use mathlib.Core.Path.{_≡_, sym, ap, _∙_, subst}
+use mathlib.Core.Path.{_≡_, sym, _∙_}
 use mathlib.Core.List.{List}
-use Prim.Native.Nat.{ℕ, _+_, _*_, _-_, _≤_, _<_}
+use Prim.Native.Nat.{ℕ, _-_, _<_}
 use native.Mathlib.Omega.{arith}
 use lib.IntN.{ℤ, pos}
-use lib.ListN.{length, getD, set, take}
+use lib.ListN.{getD, take}
 use lib.Seq.{getD-take}
 use Rattle.whole.specs.Sums.{dotZ, foldAt}
-use Rattle.whole.proofs.Inward.{mirror}
 use Rattle.whole.proofs.Fill.{tab-at}
 use Rattle.tables.proofs.LiveLanes.{Folding, fold-start, fold-more, fold-done}
-use Rattle.lanes.specs.View.{lane, cols}
-use Rattle.lanes.specs.Flat.{lanesOf, flat, oddRow, oddsOf}
-use Rattle.lanes.specs.declared.Lane.{Lane}
+use Rattle.lanes.specs.View.{lane}
+use Rattle.lanes.specs.Flat.{flat, oddRow, oddsOf}
 use Rattle.lanes.proofs.Flats.{count-low, turn-add, turn-sub, turn-sum, turn-diff}
 use Rattle.lanes.proofs.flat.last.Statement.{statement}
 use Rattle.lanes.proofs.flat.last.Tie as tie

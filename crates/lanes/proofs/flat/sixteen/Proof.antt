@@ -1,7 +1,7 @@
 -- `lanes::flat::sixteen` meets its contract: the rows that the joins make of the halves are the table's columns. Assumes nothing.
 use mathlib.Core.Path.{_≡_, refl, sym, subst}
 use mathlib.Core.List.{List}
-use Prim.Native.Nat.{ℕ, _*_, _≤_}
+use Prim.Native.Nat.{ℕ}
 use native.Mathlib.Omega.{arith}
 use borrow.Author.Needs.{needs}
 use mathlib.Core.Logic.{inl, inr}
@@ -11,8 +11,7 @@ use lib.ListN.{length, take}
 use Rattle.whole.specs.Sums.{foldRow}
 use Rattle.whole.proofs.Butterfly.{Holds}
 use Rattle.whole.proofs.Parts.{join-room, join-holds}
-use Rattle.tables.specs.Half.{half8, half16, half32}
-use Rattle.lanes.specs.View.{cols}
+use Rattle.tables.specs.Half.{half8, half16}
 use Rattle.lanes.specs.Flat.{lanesOf, flat, oddRow, quarterRow, OddHalf}
 use Rattle.lanes.proofs.Flats.{count-high, lanes-are, oddOk, odd-are, odd-holds}
 use Rattle.lanes.proofs.flat.sixteen.Statement.{statement}

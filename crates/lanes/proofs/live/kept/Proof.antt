@@ -1,6 +1,6 @@
 -- `lanes::live::kept` meets its contract: the records from live on are zeros one after the other. Assumes nothing.
 use mathlib.Core.Path.{_≡_}
-use Prim.Native.Nat.{ℕ, _-_, _≤_, _<_}
+use Prim.Native.Nat.{_-_}
 use native.Mathlib.Omega.{arith}
 use lib.ListN.{length}
 use Rattle.tables.proofs.LiveLanes.{Keeping, keep-start, keep-more, keep-done}

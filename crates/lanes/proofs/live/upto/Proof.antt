@@ -1,5 +1,5 @@
 -- `lanes::live::upto` meets its contract: the test says whether the record is live. Assumes nothing.
-use mathlib.Core.Path.{_≡_, sym, _∙_}
+use mathlib.Core.Path.{sym, _∙_}
 use borrow.Author.Needs.{needs}
 use Rattle.whole.proofs.Lanes.{col-at}
 use Rattle.tables.proofs.First.{first-in, first-out}

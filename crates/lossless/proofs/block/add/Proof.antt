@@ -8,17 +8,18 @@ use lib.IntN.{ℤ, _+ℤ_}
 use lib.ListN.{length, set}
 use mir.Syntax.{w32}
 use mir.Val.{toZ, ofZ}
+use Rattle.whole.specs.Sums.{item}
 use Rattle.whole.specs.Search.{cellAt}
 use Rattle.whole.proofs.Cells.{cell-apart}
 use Rattle.whole.proofs.Num.{Num, ask, read}
-use Rattle.lossless.specs.Gains.{numbers, addOn, gain}
+use Rattle.lossless.specs.Gains.{addOn, gain}
 use Rattle.lossless.proofs.Adding.{cell-lies, total}
 use Rattle.lossless.proofs.Gains.{length-addOn, still, addOn-next, gain-start}
 use Rattle.lossless.proofs.block.add.Statement.{statement}
 use Rattle.lossless.proofs.block.add.Tie as tie
 
 abbrev Inv-loop : tie.InvT-loop
-Inv-loop plane₀ gains start stride k₀ plane k = (k ≤ 16) × (plane ≡ addOn (gain (cellAt start stride 4) (numbers gains) k) plane₀)
+Inv-loop plane₀ gains start stride k₀ plane k = (k ≤ 16) × (plane ≡ addOn (gain (cellAt start stride 4) (item gains) k) plane₀)
 
 abbrev μ-loop : tie.MeasureT-loop
 μ-loop plane₀ gains start stride k₀ plane k = 16 - k
@@ -28,7 +29,7 @@ abbrev Cell : tie.Start Inv-loop μ-loop → ℕ → ℕ
 Cell s = cellAt (s .args .start) (s .args .stride) 4
 
 abbrev G : tie.Start Inv-loop μ-loop → ℕ → ℤ
-G s = numbers (s .args .gains .now)
+G s = item (s .args .gains .now)
 
 module _ (c : tie.In-loop Inv-loop μ-loop) where
   -- the next index lies in the plane, and is none of those before it
@@ -48,7 +49,7 @@ module _ (c : tie.After-spot-of Inv-loop μ-loop) where
       rw (c .before .before .loop .inv .1, length-addOn (gain (Cell s) (G s) (c .before .before .loop .k)) (s .args .plane .now)) at-first
 
   -- the sample there is as it was
-  here : let s = c .before .before .before in numbers (c .before .before .loop .plane) (c .spot-of .result) ≡ numbers (s .args .plane .now) (Cell s (c .before .before .loop .k))
+  here : let s = c .before .before .before in item (c .before .before .loop .plane) (c .spot-of .result) ≡ item (s .args .plane .now) (Cell s (c .before .before .loop .k))
   here =
       let s = c .before .before .before in
       rw (c .spot-of .ensures, c .before .before .loop .inv .1) (still (Cell s) (G s) (c .before .before .loop .k) (s .args .plane .now) (fresh (c .before)))
@@ -56,11 +57,11 @@ module _ (c : tie.After-spot-of Inv-loop μ-loop) where
   sum :
       let s = c .before .before .before in
       let k = c .before .before .loop .k in
-      Num (toZ w32 (ofZ w32 (numbers (c .before .before .loop .plane) (c .spot-of .result))) +ℤ toZ w32 (ofZ w32 (G s k))) (numbers (s .args .plane .now) (Cell s k) +ℤ G s k) (4095 + 1048576)
+      Num (toZ w32 (ofZ w32 (item (c .before .before .loop .plane) (c .spot-of .result))) +ℤ toZ w32 (ofZ w32 (G s k))) (item (s .args .plane .now) (Cell s k) +ℤ G s k) (4095 + 1048576)
   sum = let s = c .before .before .before in total (s .pre .0) (c .before .before .loop .k) (omega arith) here
 
 loop-holds : tie.Need-loop-holds Inv-loop μ-loop
-loop-holds c = (omega arith, gain-start (c .args .plane .now) (numbers (c .args .gains .now)) (Cell c))
+loop-holds c = (omega arith, gain-start (c .args .plane .now) (item (c .args .gains .now)) (Cell c))
 
 spot-of-requires : tie.Need-spot-of-requires Inv-loop μ-loop
 spot-of-requires c κs = let s = c .before .before in (omega arith, omega (arith, s .pre .0 .reach, s .good .0 .0))

@@ -12,12 +12,13 @@ use lib.ListN.{length}
 use mir.Syntax.{w32}
 use mir.Val.{toZ, ofZ}
 use mir.ValLaws.{toZ-ofZ}
+use Rattle.whole.specs.Sums.{item}
 use Rattle.whole.specs.Numbers.{inRange}
 use Rattle.whole.specs.Search.{seek, cellAt}
 use Rattle.whole.proofs.Cells.{cell-place}
 use Rattle.whole.proofs.Num.{Num, ask, read}
 use Rattle.whole.proofs.Search.{seek-stop, seek-step, seek-end}
-use Rattle.lossless.specs.Gains.{numbers, laterOk}
+use Rattle.lossless.specs.Gains.{laterOk}
 use Rattle.lossless.proofs.Adding.{rows-end, total}
 use Rattle.lossless.proofs.block.first_leaving.Statement.{statement}
 use Rattle.lossless.proofs.block.first_leaving.Tie as tie
@@ -28,21 +29,21 @@ Left ok k = seek ok 0 16 ≡ seek ok k (16 - k)
 
 abbrev Inv-loop : tie.InvT-loop
 Inv-loop plane gains start stride hi found₀ r base x₀ found x =
-    (x ≤ 4) × (found ≡ 16) × Left (laterOk (inRange (pos 0) (toZ w32 hi)) (cellAt start stride 4) plane (numbers gains)) (r * 4 + x)
+    (x ≤ 4) × (found ≡ 16) × Left (laterOk (inRange (pos 0) (toZ w32 hi)) (cellAt start stride 4) plane (item gains)) (r * 4 + x)
 
 abbrev μ-loop : tie.MeasureT-loop
 μ-loop plane gains start stride hi found₀ r base x₀ found x = 4 - x
 
 abbrev Inv-rows : tie.InvT-rows
 Inv-rows plane gains start stride hi found₀ r₀ found r =
-    (r ≤ 4) × (found ≡ 16) × Left (laterOk (inRange (pos 0) (toZ w32 hi)) (cellAt start stride 4) plane (numbers gains)) (r * 4)
+    (r ≤ 4) × (found ≡ 16) × Left (laterOk (inRange (pos 0) (toZ w32 hi)) (cellAt start stride 4) plane (item gains)) (r * 4)
 
 abbrev μ-rows : tie.MeasureT-rows
 μ-rows plane gains start stride hi found₀ r₀ found r = 4 - r
 
 -- the test of a cell, by the parameters
 abbrev Ok : tie.Start Inv-loop μ-loop Inv-rows μ-rows → ℕ → Bool
-Ok s = laterOk (inRange (pos 0) (s .args .hi)) (cellAt (s .args .start) (s .args .stride) 4) (s .args .plane .now) (numbers (s .args .gains .now))
+Ok s = laterOk (inRange (pos 0) (s .args .hi)) (cellAt (s .args .start) (s .args .stride) 4) (s .args .plane .now) (item (s .args .gains .now))
 
 rows : (c : tie.At-rows Inv-loop μ-loop Inv-rows μ-rows) → Left (Ok (c .before)) (c .rows .r * 4)
 rows c = let s = c .before in rw (toZ-ofZ w32 (s .args .hi) (s .fits .hi)) at (c .rows .inv .2)
@@ -65,13 +66,13 @@ module _ (c : tie.In-loop Inv-loop μ-loop Inv-rows μ-rows) where
       let r = c .before .before .before in
       let s = r .before in
       let k = r .rows .r * 4 + c .before .loop .x in
-      Num (toZ w32 (ofZ w32 (numbers (s .args .plane .now) (s .args .start + r .rows .r * s .args .stride + c .before .loop .x))) +ℤ toZ w32 (ofZ w32 (numbers (s .args .gains .now) k)))
-      (numbers (s .args .plane .now) (cellAt (s .args .start) (s .args .stride) 4 k) +ℤ numbers (s .args .gains .now) k) (4095 + 1048576)
+      Num (toZ w32 (ofZ w32 (item (s .args .plane .now) (s .args .start + r .rows .r * s .args .stride + c .before .loop .x))) +ℤ toZ w32 (ofZ w32 (item (s .args .gains .now) k)))
+      (item (s .args .plane .now) (cellAt (s .args .start) (s .args .stride) 4 k) +ℤ item (s .args .gains .now) k) (4095 + 1048576)
   sum =
       let r = c .before .before .before in
       let s = r .before in
       total (s .pre) (r .rows .r * 4 + c .before .loop .x) cell
-      (ap (numbers (s .args .plane .now)) (sym (cell-place (r .rows .r) (c .loop-test .taken) (s .args .start) (s .args .stride))))
+      (ap (item (s .args .plane .now)) (sym (cell-place (r .rows .r) (c .loop-test .taken) (s .args .start) (s .args .stride))))
 
 tested : (c : tie.After-inside Inv-loop μ-loop Inv-rows μ-rows) → let l = c .before .before .before in let r = l .before .before .before in c .inside .result ≡ Ok (r .before) (r .rows .r * 4 + l .before .loop .x)
 tested c =

@@ -1,9 +1,10 @@
 -- `lossless::block::gain` meets its contract: the verdict, and where it is Done the sum. Assumes nothing.
 use Prim.Native.Nat.{ℕ}
 use lib.IntN.{ℤ}
+use Rattle.whole.specs.Sums.{item}
 use Rattle.answers.proofs.Endings.{same-number, ends-refused, ends-done}
 use Rattle.whole.specs.Search.{cellAt}
-use Rattle.lossless.specs.Gains.{numbers, gained}
+use Rattle.lossless.specs.Gains.{gained}
 use Rattle.lossless.specs.Step.{sample}
 use Rattle.lossless.proofs.Adding.{sample-size}
 use Rattle.lossless.proofs.Blocks.{passes}
@@ -16,7 +17,7 @@ abbrev Cell : tie.Start → ℕ → ℕ
 Cell s = cellAt (s .args .start) (s .args .stride) 4
 
 abbrev G : tie.Start → ℕ → ℤ
-G s = numbers (s .args .gains .now)
+G s = item (s .args .gains .now)
 
 judge-requires : tie.Need-judge-requires
 judge-requires c κs = search needs
@@ -35,7 +36,7 @@ add-requires c κs =
     let e = c .before in
     let s = e .before .before .before .before in
     let t = passes (sample (s .args .depth)) (Cell s) (s .args .plane .now) (G s) (same-number (e .before .before .judge .ensures) (e .if1 .left)) in
-    (record { reach = s .pre .1; small = λ k h. sample-size (s .args .depth) (numbers (s .args .plane .now) (Cell s k)) (s .pre .0) (t .present k h); gains = s .pre .2 }, s .pre .3)
+    (record { reach = s .pre .1; small = λ k h. sample-size (s .args .depth) (item (s .args .plane .now) (Cell s k)) (s .pre .0) (t .present k h); gains = s .pre .2 }, s .pre .3)
 
 same-length-2 : tie.Need-same-length-2
 same-length-2 c = search needs

@@ -4,12 +4,13 @@ use Prim.Native.Nat.{ℕ, _≤_, _<_}
 use lib.Dec.{lit<}
 use lib.IntN.{ℤ}
 use lib.ListN.{length}
+use Rattle.whole.specs.Sums.{item}
 use Rattle.answers.specs.Answers.{done, refused}
 use Rattle.answers.proofs.Verdicts.{search-opens, search-stops}
 use Rattle.whole.specs.Search.{seek, cellAt}
 use Rattle.whole.proofs.Num.{back}
 use Rattle.whole.proofs.Search.{seek-passed}
-use Rattle.lossless.specs.Gains.{numbers, presentOk, laterOk, leaves, samples}
+use Rattle.lossless.specs.Gains.{presentOk, laterOk, leaves, samples}
 use Rattle.lossless.specs.Step.{sample}
 use Rattle.lossless.proofs.Adding.{rows-end, sample-size}
 use borrow.Author.Needs.{needs}
@@ -21,7 +22,7 @@ abbrev Cell : tie.Start → ℕ → ℕ
 Cell s = cellAt (s .args .start) (s .args .stride) 4
 
 abbrev G : tie.Start → ℕ → ℤ
-G s = numbers (s .args .gains .now)
+G s = item (s .args .gains .now)
 
 abbrev Bad : tie.Start → ℕ
 Bad s = seek (presentOk (sample (s .args .depth)) (Cell s) (s .args .plane .now)) 0 16
@@ -66,7 +67,7 @@ first-leaving-requires c κs =
     let s = c .before .before .before in
     record {
       reach = s .pre .1;
-      small = λ k h. sample-size (s .args .depth) (numbers (s .args .plane .now) (Cell s k)) (s .pre .0) (seek-passed (presentOk (sample (s .args .depth)) (Cell s) (s .args .plane .now)) 16 (all-present c) k h);
+      small = λ k h. sample-size (s .args .depth) (item (s .args .plane .now) (Cell s k)) (s .pre .0) (seek-passed (presentOk (sample (s .args .depth)) (Cell s) (s .args .plane .now)) 16 (all-present c) k h);
       gains = s .pre .2;
     }
 

@@ -6,7 +6,7 @@ use native.Mathlib.Omega.{arith}
 use lib.IntN.{ℤ, pos}
 use lib.ListN.{length, getD, length-take}
 use borrow.Author.Needs.{needs}
-use Rattle.whole.specs.Sums.{tab, place}
+use Rattle.whole.specs.Sums.{tab, flipped}
 use Rattle.whole.proofs.Fill.{tab-list}
 use Rattle.rows.proofs.Front.{copied, copied-count, copied-inside}
 use Rattle.rows.proofs.square.turn.Statement.{statement}
@@ -14,7 +14,7 @@ use Rattle.rows.proofs.square.turn.Tie as tie
 
 -- in either order
 abbrev ordered : Bool → List ℤ → List ℤ
-ordered f l = tab (length l) (λ k. getD l (place f (length l) k) (pos 0))
+ordered f l = tab (length l) (λ k. getD l (flipped f (length l) k) (pos 0))
 
 by-flag : {f : Bool} (b : Bool) (l : List ℤ) {out : List ℤ} → f ≡ b → out ≡ ordered b l → out ≡ ordered f l
 by-flag b l e p = p ∙ ap (λ f. ordered f l) (sym e)

@@ -1,7 +1,7 @@
 -- `plane::draw` meets its contract: the arguments are the numbers of the list. Assumes nothing.
 use mathlib.Core.Path.{_∙_}
 use borrow.Author.Needs.{needs}
-use Rattle.lossless.specs.Gains.{numbers}
+use Rattle.whole.specs.Sums.{item}
 use Rattle.screen.proofs.Tails.{tail-lent}
 use Rattle.screen.proofs.Planes.{natural-read, block-same}
 use Rattle.screen.proofs.plane.draw.Statement.{statement}
@@ -57,11 +57,11 @@ returns c =
     let l = q .list .now in
     c .before .add .ensures
     ∙ block-same (q .plane .now) (q .stride) (q .width) (q .height) (q .depth)
-    (r .natural .ensures ∙ natural-read (numbers l 0) (record { sfits = r .before .natural-arg .given }))
-    (k .natural2 .ensures ∙ natural-read (numbers l 1) (record { sfits = k .before .natural-arg2 .given }))
+    (r .natural .ensures ∙ natural-read (item l 0) (record { sfits = r .before .natural-arg .given }))
+    (k .natural2 .ensures ∙ natural-read (item l 1) (record { sfits = k .before .natural-arg2 .given }))
     (tail-lent 4 l)
-    (h .natural4 .ensures ∙ natural-read (numbers l 3) (record { sfits = h .before .natural-arg4 .given }))
-    (t .natural3 .ensures ∙ natural-read (numbers l 2) (record { sfits = t .before .natural-arg3 .given }))
+    (h .natural4 .ensures ∙ natural-read (item l 3) (record { sfits = h .before .natural-arg4 .given }))
+    (t .natural3 .ensures ∙ natural-read (item l 2) (record { sfits = t .before .natural-arg3 .given }))
 
 pub draw-spec : {M : Type 1} → statement M
 draw-spec =

@@ -8,8 +8,8 @@ use lib.ListN.{length}
 use mir.Syntax.{w32}
 use mir.Val.{ofZ}
 use mir.ValLaws.{toZ-ofZ}
+use Rattle.whole.specs.Sums.{item}
 use Rattle.whole.proofs.Fill.{length-tab, tab-at}
-use Rattle.lossless.specs.Gains.{numbers}
 use Rattle.screen.specs.Planes.{freshOf, marked}
 use Rattle.screen.proofs.Planes.{same-bits, Agreed, agreed-none, agreed-more, differing, alike}
 use Rattle.screen.proofs.plane.first_touched.Statement.{statement}
@@ -25,15 +25,15 @@ abbrev μ-loop : tie.MeasureT-loop
 marked-at : (c : tie.After-fresh Inv-loop μ-loop)
     → let l = c .before .before .before in
     let q = l .before .args in
-    c .fresh .result ≡ numbers (marked (q .stride) (q .width) (q .list .now)) (l .loop .i)
+    c .fresh .result ≡ item (marked (q .stride) (q .width) (q .list .now)) (l .loop .i)
 marked-at c =
     let l = c .before .before .before in
     let q = l .before .args in
     let p = q .list .now in
     let i = l .loop .i in
     c .fresh .ensures
-    ∙ ap (λ z. freshOf (q .stride) (q .width) z i) (toZ-ofZ w32 (numbers p i) (record { sfits = c .before .z .given }))
-    ∙ sym (tab-at (pos 0) (length p) (λ j. freshOf (q .stride) (q .width) (numbers p j) j) i (c .before .before .loop-test .taken))
+    ∙ ap (λ z. freshOf (q .stride) (q .width) z i) (toZ-ofZ w32 (item p i) (record { sfits = c .before .z .given }))
+    ∙ sym (tab-at (pos 0) (length p) (λ j. freshOf (q .stride) (q .width) (item p j) j) i (c .before .before .loop-test .taken))
 
 loop-holds : tie.Need-loop-holds Inv-loop μ-loop
 loop-holds c = (agreed-none (c .args .list .now) (marked (c .args .stride) (c .args .width) (c .args .list .now)), omega arith)
@@ -69,7 +69,7 @@ returns-2 : tie.Need-returns-2 Inv-loop μ-loop
 returns-2 c =
     let q = c .before .before .args in
     let p = q .list .now in
-    alike (c .before .loop .inv .0) (c .loop-test .left) (sym (length-tab (length p) (λ j. freshOf (q .stride) (q .width) (numbers p j) j)))
+    alike (c .before .loop .inv .0) (c .loop-test .left) (sym (length-tab (length p) (λ j. freshOf (q .stride) (q .width) (item p j) j)))
 
 pub first-touched-spec : {M : Type 1} → statement M
 first-touched-spec =

@@ -7,17 +7,17 @@ use lib.Dec.{lit<}
 use lib.IntN.{pos, _-ℤ_}
 use lib.ListN.{length}
 use mir.Syntax.{w32}
+use Rattle.whole.specs.Sums.{item}
 use Rattle.whole.specs.Search.{cellAt}
 use Rattle.whole.proofs.Fill.{Filling, fill-start, fill-more, fill-done}
 use Rattle.whole.proofs.Num.{ask, read}
-use Rattle.lossless.specs.Gains.{numbers}
 use Rattle.lossless.proofs.Adding.{cell-lies}
 use Rattle.screen.proofs.Levels.{gap}
 use Rattle.screen.proofs.steps.differences.Statement.{statement}
 use Rattle.screen.proofs.steps.differences.Tie as tie
 
 abbrev Inv-loop : tie.InvT-loop
-Inv-loop plane start stride wanted gaps₀ k₀ gaps k = Filling (pos 0) 16 (λ j. numbers wanted j -ℤ numbers plane (cellAt start stride 4 j)) gaps k
+Inv-loop plane start stride wanted gaps₀ k₀ gaps k = Filling (pos 0) 16 (λ j. item wanted j -ℤ item plane (cellAt start stride 4 j)) gaps k
 
 abbrev μ-loop : tie.MeasureT-loop
 μ-loop plane start stride wanted gaps₀ k₀ gaps k = 16 - k

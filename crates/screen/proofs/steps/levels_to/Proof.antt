@@ -10,12 +10,13 @@ use borrow.Author.Tests.{not-true, not-false}
 use lib.Dec.{lit<}
 use lib.IntN.{ℤ}
 use lib.ListN.{length}
+use Rattle.whole.specs.Sums.{item}
 use Rattle.whole.specs.Search.{cellAt}
 use Rattle.whole.proofs.Num.{back}
 use Rattle.whole.proofs.Search.{seek-passed}
 use Rattle.wht.specs.Calls.{Sixteen}
 use Rattle.wht.specs.Wht.{fwht}
-use Rattle.lossless.specs.Gains.{numbers, presentOk}
+use Rattle.lossless.specs.Gains.{presentOk}
 use Rattle.lossless.specs.Step.{sample}
 use Rattle.lossless.proofs.Adding.{rows-end, sample-size}
 use Rattle.screen.specs.Planes.{standsOf}
@@ -60,9 +61,9 @@ module _ (c : tie.Else2) where
       let q = z .args in
       record {
         count = z .pre .2 .count;
-        wanted = λ k h. sample-size (q .depth) (numbers (q .wanted .now) k) (z .pre .1) (z .pre .2 .good k h);
+        wanted = λ k h. sample-size (q .depth) (item (q .wanted .now) k) (z .pre .1) (z .pre .2 .good k h);
         present = λ k h.
-            sample-size (q .depth) (numbers (q .plane .now) (cellAt (start place-of) (q .stride) 4 k)) (z .pre .1)
+            sample-size (q .depth) (item (q .plane .now) (cellAt (start place-of) (q .stride) 4 k)) (z .pre .1)
             (seek-passed (presentOk (sample (q .depth)) (cellAt (start place-of) (q .stride) 4) (q .plane .now)) 16 all-present k h);
       }
 
