@@ -3,6 +3,7 @@
 --     then-passed                    both parts are Done where the verdict is
 --     first-refused, first-passed    a whole call by its first part
 --     done-samples                   the undo's own answer is Done where its number is 0
+--     judged-keeps, judged-stops, judged-opens    what the judge of the lent history answered: where Done, the history is in range and any rest follows; else that is the answer
 use mathlib.Core.Path.{_≡_, refl, sym, ap, _∙_}
 use mathlib.Core.Bool.{Bool, true, false}
 use mathlib.Core.List.{List}
@@ -13,11 +14,15 @@ use lib.IntN.{ℤ}
 use Rattle.whole.specs.Sums.{item}
 use Rattle.answers.specs.declared.Answer.{Answer}
 use Rattle.answers.specs.Answers.{done, unless, ends}
-use Rattle.answers.proofs.Endings.{ends-refused}
+use Rattle.answers.proofs.Endings.{ends-refused, same-number}
 use Rattle.answers.proofs.Verdicts.{opens, stops}
 use Rattle.lossless.specs.Step.{sample}
 use Rattle.lossless.proofs.Blocks.{passes, passed}
 use Rattle.remain.specs.Remaining.{Entry}
+use Rattle.keeping.specs.Range.{Area, kept}
+use Rattle.keeping.specs.Bounds.{Keeping}
+use Rattle.keeping.proofs.Facts.{kept-is}
+use Rattle.keeping.proofs.Verdicts.{kept-stops, kept-opens}
 use Rattle.history.specs.Calls.{spots, losses, andThen, undoing}
 
 pub then-stops : (a rest : Answer) → (a .number ≡ 0 → ⊥) → andThen a rest ≡ a
@@ -47,3 +52,14 @@ done-samples t p e h =
     let at = spots t (e .mark .row) (e .mark .column) in
     let g = item (losses (e .levels)) in
     passed ok at p g (passes ok at p g h)
+
+-- r is what the judge of the lent history answered
+module _ (a : Area) (s : List ℕ) (l : List ℤ) (k : ℕ) {r : Answer} (e : r ≡ kept a s l k done) where
+  pub judged-keeps : r .number ≡ 0 → Keeping a s l k
+  judged-keeps z = kept-is a s l k (same-number e z)
+
+  pub judged-stops : (r .number ≡ 0 → ⊥) → (rest : Answer) → r ≡ kept a s l k rest
+  judged-stops h rest = e ∙ sym (kept-stops a s l k rest (λ q. h (ap (λ (x : Answer). x .number) e ∙ q)))
+
+  pub judged-opens : r .number ≡ 0 → (rest : Answer) → kept a s l k rest ≡ rest
+  judged-opens z rest = kept-opens a s l k rest (same-number e z)

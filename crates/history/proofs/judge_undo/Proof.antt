@@ -6,15 +6,13 @@ use borrow.Author.Tests.{le-ltb, lt-ltb}
 use lib.Dec.{ltb}
 use lib.ListN.{length}
 use Rattle.answers.specs.declared.Answer.{Answer}
-use Rattle.answers.specs.Answers.{done, refused, unless}
-use Rattle.answers.proofs.Endings.{same-number}
+use Rattle.answers.specs.Answers.{refused, unless}
 use Rattle.answers.proofs.Verdicts.{opens, stops}
 use Rattle.remain.specs.Remaining.{count, entryAt}
 use Rattle.keeping.specs.Range.{Area, area, kept}
 use Rattle.keeping.specs.Bounds.{Keeping}
-use Rattle.keeping.proofs.Facts.{kept-is}
-use Rattle.keeping.proofs.Verdicts.{kept-stops, kept-opens}
 use Rattle.history.specs.Calls.{Lent, lent, undoing}
+use Rattle.history.proofs.Parts.{judged-keeps, judged-stops, judged-opens}
 use Rattle.history.proofs.Taking.{undoable-is}
 use borrow.Author.Needs.{needs}
 use Rattle.history.proofs.judge_undo.Statement.{statement}
@@ -32,20 +30,14 @@ Kept s rest = kept (A s) (s .args .steps .now) (s .args .levels .now) (length (s
 abbrev undo-at : tie.Start → ℕ → Answer
 undo-at s i = undoing (s .args .stride) (s .args .plane .now) (entryAt (s .args .steps .now) (s .args .levels .now) i)
 
-kept-done : (c : tie.Else1) → Kept (c .before .before .before .before .before) done .number ≡ 0
-kept-done c = same-number (c .before .before .judge-kept .ensures) (c .if1 .left)
-
 keeps : (c : tie.Else1) → let s = c .before .before .before .before .before in Keeping (A s) (s .args .steps .now) (s .args .levels .now) (length (s .args .index .now))
-keeps c = let s = c .before .before .before .before .before in kept-is (A s) (s .args .steps .now) (s .args .levels .now) (length (s .args .index .now)) (kept-done c)
+keeps c = let s = c .before .before .before .before .before in judged-keeps (A s) (s .args .steps .now) (s .args .levels .now) (length (s .args .index .now)) (c .before .before .judge-kept .ensures) (c .if1 .left)
 
 stopped : (c : tie.Then1) (rest : Answer) → c .before .before .judge-kept .result ≡ Kept (c .before .before .before .before .before) rest
-stopped c rest =
-    let s = c .before .before .before .before .before in
-    let e = c .before .before .judge-kept .ensures in
-    e ∙ sym (kept-stops (A s) (s .args .steps .now) (s .args .levels .now) (length (s .args .index .now)) rest (λ q. c .if1 .taken (ap (λ (x : Answer). x .number) e ∙ q)))
+stopped c = let s = c .before .before .before .before .before in judged-stops (A s) (s .args .steps .now) (s .args .levels .now) (length (s .args .index .now)) (c .before .before .judge-kept .ensures) (c .if1 .taken)
 
 opened : (c : tie.Else1) (rest : Answer) → Kept (c .before .before .before .before .before) rest ≡ rest
-opened c rest = let s = c .before .before .before .before .before in kept-opens (A s) (s .args .steps .now) (s .args .levels .now) (length (s .args .index .now)) rest (kept-done c)
+opened c = let s = c .before .before .before .before .before in judged-opens (A s) (s .args .steps .now) (s .args .levels .now) (length (s .args .index .now)) (c .before .before .judge-kept .ensures) (c .if1 .left)
 
 abbrev Rest : tie.Start → Answer
 Rest s = undo-at s (count (s .args .steps .now) - 1)
