@@ -2,7 +2,9 @@
 --     pick-asks            what is asked of the live inputs, at the known length
 --     pick-gives           the kernel's promise, at the length and the code that were asked for
 --     highest-code         the codes of a known length
---     long, long-rest      a length that is neither 4, 8 nor 16; of its kinds besides the DCT there is the identity of 32
+--     code-gives           the same of records in lists, where the length is known
+--     long                 a length that is neither 4, 8 nor 16
+--     long-kind, -gives    its kinds are those of 32, and so are their kernels
 use mathlib.Core.Path.{_≡_, refl, sym, ap, _∙_, subst}
 use mathlib.Core.Bool.{true}
 use mathlib.Core.List.{List}
@@ -17,6 +19,7 @@ use Rattle.whole.specs.Lanes.{col}
 use Rattle.tables.specs.Sizes.{cut}
 use Rattle.tables.specs.Kinds.{hasKind}
 use Rattle.tables.specs.Dense.{firstOf, denseOf}
+use Rattle.lanes.specs.Flat.{flat, Across}
 use Rattle.tables.proofs.Kernels.{Length, n4, n8, n16, n32, n64, lengths}
 
 module _ {R : Type 0} (at : R → ℕ → ℤ) (ls : List R) (live : ℕ) where
@@ -33,10 +36,16 @@ module _ {R : Type 0} (at : R → ℕ → ℤ) (ls : List R) (live : ℕ) where
       subst (λ (j : ℕ). take (cut j) (col at k rs) ≡ denseOf j code (firstOf live (take (cut j) (col at k ls)))) (sym e)
       (h k ∙ ap (λ z. denseOf m z (firstOf live (take (cut m) (col at k ls)))) (sym f))
 
+pub code-gives : (n : ℕ) (xs ys : List ℤ) {code d : ℕ} → code ≡ d → Across n (denseOf n d) xs ys → Across n (denseOf n code) xs ys
+code-gives n xs ys e h k = h k ∙ ap (λ z. denseOf n z (flat k xs)) (sym e)
+
 -- ---- lengths and codes
 module _ (n code : ℕ) (h : hasKind n code ≡ true) where
   pub highest-code : (m top : ℕ) → n ≡ m → hasKind m code ≡ leb code top → code ≤ top
   highest-code m top e f = leb-true code top (sym f ∙ subst (λ (j : ℕ). hasKind j code ≡ true) e h)
+
+  none : leb code 0 ≡ true → code ≡ 0
+  none k = omega (arith, leb-true code 0 k)
 
   -- what holds of 32 and of 64 holds of a length that is neither 4, 8 nor 16
   module _ (a : n ≡ 4 → ⊥) (b : n ≡ 8 → ⊥) (c : n ≡ 16 → ⊥) where
@@ -50,5 +59,9 @@ module _ (n code : ℕ) (h : hasKind n code ≡ true) where
         go n32 p q r = x
         go n64 p q r = y
 
-    pub long-rest : (code ≡ 0 → ⊥) → (n ≡ 32) × (code ≡ 1)
-    long-rest z = long (λ m. hasKind m code ≡ true → (m ≡ 32) × (code ≡ 1)) (λ k. (refl, omega (arith, leb-true code 1 k))) (λ k. absurd (z (omega (arith, leb-true code 0 k)))) h
+    -- and a kind of 64 is one of 32
+    pub long-kind : hasKind 32 code ≡ true
+    long-kind = long (λ m. hasKind m code ≡ true → hasKind 32 code ≡ true) (λ k. k) (λ k. ap (λ z. hasKind 32 z) (none k)) h
+
+    pub long-gives : (P : ℕ → ℕ → Type 0) → P 32 code → (P 32 0 → P 64 0) → P n code
+    long-gives P x y = long (λ m. hasKind m code ≡ true → P m code) (λ k. x) (λ k. subst (P 64) (sym (none k)) (y (subst (P 32) (none k) x))) h

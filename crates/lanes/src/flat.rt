@@ -1,15 +1,14 @@
-// The DCT of records that stand in a lent list, number k of record j at place 4 * j + k: the even half grows in place, and the odd inputs are joined to it by the table of their half.
+// Records that stand in a lent list, number k of record j at place 4 * j + k; and the steps of a DCT of them: the even half grows in place, and the odd inputs are joined to it by the table of their half.
 ghost use mathlib.Core.Path.{_≡_};
 ghost use Prim.Native.Nat.{ℕ, _+_, _*_, _^_, _≤_, _<_};
-ghost use lib.IntN.{pos};
+ghost use lib.IntN.{pos, natAbs};
 ghost use lib.ListN.{length, getD, set, take};
-ghost use Rattle.whole.specs.Sums.{tab, dotZ, denseC, Within};
+ghost use Rattle.whole.specs.Sums.{tab, dotZ, Within};
 ghost use Rattle.whole.specs.Parts.{joined, JoinRoom};
-ghost use Rattle.tables.specs.Dense.{firstOf};
-ghost use Rattle.tables.specs.Half.{half8, half16};
-ghost use Rattle.tables.specs.Dct.{dct8, dct16, dct32};
+ghost use Rattle.tables.specs.Dense.{firstOf, multiplied};
+ghost use Rattle.tables.specs.Half.{half8, half16, half32};
 ghost use Rattle.lanes.specs.View.{lane, cols};
-ghost use Rattle.lanes.specs.Flat.{lanesOf, flat, oddRow, oddsOf, OddHalf, Quarter, quarterRow};
+ghost use Rattle.lanes.specs.Flat.{lanesOf, flat, oddRow, oddsOf, OddHalf, Quarter, quarterRow, Quiet, Across};
 use crate::Lane;
 use crate::dot;
 use tables::half::DCT8_KERNEL;
@@ -58,6 +57,55 @@ pub fn laid(xs: &mut [i32], c: [Lane; 32], live: usize)
     }
 }
 
+// Of the first n records of a list that has no others but zeros, those after the first live are zero.
+fn rest(xs: &mut [i32], live: usize, n: usize)
+    requires { ⌜ (n ≤ length (lanesOf (now xs))) × Quiet n (now xs) ⌝ }
+    ensures { λ _. ⌜ ((k : ℕ) → flat k (now (xs .exit)) ≡ firstOf live (flat k (now (xs .entry)))) ⌝ }
+{
+    let z = Lane::zero();
+    let mut i = live;
+    while i < n {
+        put(xs, i, z);
+        i += 1;
+    }
+}
+
+// The first live records of c into a list of zeros, by way of the first most: a number that the compiler knows spares it a copy of c.
+pub fn lay(xs: &mut [i32], c: [Lane; 32], most: usize, live: usize)
+    requires { ⌜ (live ≤ most) × (most ≤ length (lanesOf (now xs))) × (length (lanesOf (now xs)) ≤ 32) × ((k i : ℕ) → getD (flat k (now xs)) i (pos 0) ≡ pos 0) ⌝ }
+    ensures { λ _. ⌜ ((k : ℕ) → flat k (now (xs .exit)) ≡ firstOf live (take (length (lanesOf (now (xs .entry)))) (cols k c))) ⌝ }
+{
+    laid(xs, c, most);
+    rest(xs, live, most);
+}
+
+// The first n records of a list as records.
+pub fn records(e: &[i32], n: usize) -> [Lane; 32]
+    requires { ⌜ (n ≤ 32) × (4 * n ≤ length (now e)) ⌝ }
+    ensures { λ r. ⌜ ((k : ℕ) → take n (cols k r) ≡ take n (flat k (now (e .entry)))) ⌝ }
+{
+    let z = Lane::zero();
+    let mut r = [z; 32];
+    let mut i = 0;
+    while i < n {
+        r[i] = at(e, i);
+        i += 1;
+    }
+    r
+}
+
+// Each of the first n records times f.
+pub fn times(c: &[i32], e: &mut [i32], f: i32, n: usize)
+    requires { ⌜ (4 * n ≤ length (now c)) × (4 * n ≤ length (now e)) × (natAbs f ≤ 512) × ((k : ℕ) → Within (2 ^ 19) (flat k (now c))) ⌝ }
+    ensures { λ _. ⌜ Across n (multiplied n f) (now (c .entry)) (now (e .exit)) ⌝ }
+{
+    let mut i = 0;
+    while i < n {
+        put(e, i, at(c, i).mul_n(f));
+        i += 1;
+    }
+}
+
 // The odd half of output m: the inputs start, 3 start, 5 start, .., h of them, times row m of the table.
 fn odd(t: &[i8], c: &[i32], h: usize, m: usize, start: usize) -> Lane
     requires { ⌜ OddHalf h (now t) start (length (lanesOf (now c))) × (m < h) × ((k : ℕ) → Within (2 ^ 19) (flat k (now c))) ⌝ }
@@ -91,28 +139,8 @@ fn grow(t: &[i8], c: &[i32], e: &mut [i32], start: usize, h: usize)
     }
 }
 
-// The last such step, into records.
-fn last(t: &[i8], c: &[i32], e: &[i32], h: usize) -> [Lane; 32]
-    requires { ⌜ OddHalf h (now t) 1 (length (lanesOf (now c))) × (h ≤ length (lanesOf (now e))) × (h ≤ 16) × ((k : ℕ) → Within (2 ^ 19) (flat k (now c))) ⌝ }
-    requires { ⌜ ((k : ℕ) → JoinRoom h (take h (flat k (now e))) (oddsOf h (now t) 1 (flat k (now c)))) ⌝ }
-    ensures { λ r. ⌜ ((k : ℕ) → take (h + h) (cols k r) ≡ joined h (take h (flat k (now (e .entry)))) (oddsOf h (now (t .entry)) 1 (flat k (now (c .entry))))) ⌝ }
-{
-    let n = h + h;
-    let z = Lane::zero();
-    let mut r = [z; 32];
-    let mut m = 0;
-    while m < h {
-        let o = odd(t, c, h, m, 1);
-        let a = at(e, m);
-        r[m] = a.add(o);
-        r[n - 1 - m] = a.sub(o);
-        m += 1;
-    }
-    r
-}
-
 // The first four outputs of the inputs 0, d, 2d and 3d: one output, grown to two and to four.
-fn first_four(c: &[i32], e: &mut [i32], d: usize)
+pub fn first_four(c: &[i32], e: &mut [i32], d: usize)
     requires { ⌜ Quarter d (length (lanesOf (now c))) × (4 ≤ length (lanesOf (now e))) × ((k : ℕ) → Within (2 ^ 19) (flat k (now c))) ⌝ }
     ensures { λ _. ⌜ ((k : ℕ) → take 4 (flat k (now (e .exit))) ≡ tab 4 (λ m. dotZ (quarterRow d m) (flat k (now (c .entry))))) ⌝ }
 {
@@ -123,7 +151,7 @@ fn first_four(c: &[i32], e: &mut [i32], d: usize)
 }
 
 // Four outputs grown to eight.
-fn grow8(c: &[i32], e: &mut [i32], start: usize)
+pub fn grow8(c: &[i32], e: &mut [i32], start: usize)
     requires { ⌜ OddHalf 4 half8 start (length (lanesOf (now c))) × (8 ≤ length (lanesOf (now e))) × ((k : ℕ) → Within (2 ^ 19) (flat k (now c))) ⌝ }
     requires { ⌜ ((k : ℕ) → JoinRoom 4 (take 4 (flat k (now e))) (oddsOf 4 half8 start (flat k (now c)))) ⌝ }
     ensures { λ _. ⌜ ((k : ℕ) → take 8 (flat k (now (e .exit))) ≡ joined 4 (take 4 (flat k (now (e .entry)))) (oddsOf 4 half8 start (flat k (now (c .entry))))) ⌝ }
@@ -132,7 +160,7 @@ fn grow8(c: &[i32], e: &mut [i32], start: usize)
 }
 
 // Eight outputs grown to sixteen.
-fn grow16(c: &[i32], e: &mut [i32], start: usize)
+pub fn grow16(c: &[i32], e: &mut [i32], start: usize)
     requires { ⌜ OddHalf 8 half16 start (length (lanesOf (now c))) × (16 ≤ length (lanesOf (now e))) × ((k : ℕ) → Within (2 ^ 19) (flat k (now c))) ⌝ }
     requires { ⌜ ((k : ℕ) → JoinRoom 8 (take 8 (flat k (now e))) (oddsOf 8 half16 start (flat k (now c)))) ⌝ }
     ensures { λ _. ⌜ ((k : ℕ) → take 16 (flat k (now (e .exit))) ≡ joined 8 (take 8 (flat k (now (e .entry)))) (oddsOf 8 half16 start (flat k (now (c .entry))))) ⌝ }
@@ -140,35 +168,11 @@ fn grow16(c: &[i32], e: &mut [i32], start: usize)
     grow(&DCT16_KERNEL, c, e, start, 8);
 }
 
-// The 8-point DCT.
-pub fn eight(c: &[i32]) -> [Lane; 32]
-    requires { ⌜ (length (now c) ≡ 32) × ((k : ℕ) → Within (2 ^ 19) (flat k (now c))) ⌝ }
-    ensures { λ r. ⌜ ((k : ℕ) → take 8 (cols k r) ≡ denseC 8 dct8 (flat k (now (c .entry)))) ⌝ }
+// Sixteen outputs grown to thirty-two.
+pub fn grow32(c: &[i32], e: &mut [i32], start: usize)
+    requires { ⌜ OddHalf 16 half32 start (length (lanesOf (now c))) × (32 ≤ length (lanesOf (now e))) × ((k : ℕ) → Within (2 ^ 19) (flat k (now c))) ⌝ }
+    requires { ⌜ ((k : ℕ) → JoinRoom 16 (take 16 (flat k (now e))) (oddsOf 16 half32 start (flat k (now c)))) ⌝ }
+    ensures { λ _. ⌜ ((k : ℕ) → take 32 (flat k (now (e .exit))) ≡ joined 16 (take 16 (flat k (now (e .entry)))) (oddsOf 16 half32 start (flat k (now (c .entry))))) ⌝ }
 {
-    let mut e = [0i32; 16];
-    first_four(c, &mut e, 2);
-    last(&DCT8_KERNEL, c, &e, 4)
-}
-
-// The 16-point DCT.
-pub fn sixteen(c: &[i32]) -> [Lane; 32]
-    requires { ⌜ (length (now c) ≡ 64) × ((k : ℕ) → Within (2 ^ 19) (flat k (now c))) ⌝ }
-    ensures { λ r. ⌜ ((k : ℕ) → take 16 (cols k r) ≡ denseC 16 dct16 (flat k (now (c .entry)))) ⌝ }
-{
-    let mut e = [0i32; 32];
-    first_four(c, &mut e, 4);
-    grow8(c, &mut e, 2);
-    last(&DCT16_KERNEL, c, &e, 8)
-}
-
-// The 32-point DCT.
-pub fn thirty_two(c: &[i32]) -> [Lane; 32]
-    requires { ⌜ (length (now c) ≡ 128) × ((k : ℕ) → Within (2 ^ 19) (flat k (now c))) ⌝ }
-    ensures { λ r. ⌜ ((k : ℕ) → take 32 (cols k r) ≡ denseC 32 dct32 (flat k (now (c .entry)))) ⌝ }
-{
-    let mut e = [0i32; 64];
-    first_four(c, &mut e, 8);
-    grow8(c, &mut e, 4);
-    grow16(c, &mut e, 2);
-    last(&DCT32_KERNEL, c, &e, 16)
+    grow(&DCT32_KERNEL, c, e, start, 16);
 }

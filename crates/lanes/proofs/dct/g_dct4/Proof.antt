@@ -1,20 +1,20 @@
--- `lanes::dct::g_dct4` meets its contract: the records that are not live are zeros. Assumes nothing.
-use mathlib.Core.Path.{sym, ap, _∙_, subst}
-use Prim.Native.Nat.{_^_}
+-- `lanes::dct::g_dct4` meets its contract: the rows that the joins make of the halves are the table's columns. Assumes nothing.
+use mathlib.Core.Path.{refl}
+use mathlib.Core.Logic.{inl}
+use native.Mathlib.Omega.{arith}
 use borrow.Author.Needs.{needs}
-use Rattle.whole.specs.Sums.{denseC, Within}
-use Rattle.tables.specs.Dct.{dct4}
+use Rattle.lanes.proofs.Flats.{count-high, lanes-are}
 use Rattle.lanes.proofs.dct.g_dct4.Statement.{statement}
 use Rattle.lanes.proofs.dct.g_dct4.Tie as tie
 
-kept-requires : tie.Need-kept-requires
-kept-requires c κs = search needs
+first-four-requires : tie.Need-first-four-requires
+first-four-requires c κs = (inl (inl (refl, lanes-are 4 (c .before .args .c .now) (c .before .pre .0 .0))), omega (arith, count-high (c .before .args .e .now), c .before .pre .1), c .before .pre .0 .1)
 
-four-requires : tie.Need-four-requires
-four-requires c κs k = subst (Within (2 ^ 19)) (sym (c .kept .ensures k)) (c .before .pre .1 k)
+same-length : tie.Need-same-length
+same-length c = search needs
 
 returns : tie.Need-returns
-returns c k = c .four .ensures k ∙ ap (denseC 4 dct4) (c .before .kept .ensures k)
+returns c = search needs
 
 pub g-dct4-spec : {M : Type 1} → statement M
-g-dct4-spec = tie.close (tie.spec kept-requires four-requires returns)
+g-dct4-spec = tie.close (tie.spec first-four-requires same-length returns)

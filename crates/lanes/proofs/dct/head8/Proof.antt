@@ -49,15 +49,24 @@ upto-requires-4 c κs = search needs
 slice-aggregate-g-head : tie.Need-slice-aggregate-g-head
 slice-aggregate-g-head c = search needs
 
+slice-aggregate-g-head-2 : tie.Need-slice-aggregate-g-head-2
+slice-aggregate-g-head-2 c = search needs
+
 g-head-requires : tie.Need-g-head-requires
 g-head-requires c κs =
-    let u = c .before in
-    (inl (refl, refl), λ k. subst (Within (2 ^ 19)) (sym (are u k)) (within-front 4 (2 ^ 19) (firstOf (s u .args .live) (take 8 (cols k (s u .args .c)))) (s u .pre .1 .1 k)))
+    let u = c .before .before in
+    (inl (refl, refl), lit≤ tt, λ k. subst (Within (2 ^ 19)) (sym (are u k)) (within-front 4 (2 ^ 19) (firstOf (s u .args .live) (take 8 (cols k (s u .args .c)))) (s u .pre .1 .1 k)))
+
+slice-aggregate-records : tie.Need-slice-aggregate-records
+slice-aggregate-records c = search needs
+
+records-requires : tie.Need-records-requires
+records-requires c κs = search needs
 
 returns : tie.Need-returns
 returns c k =
-    let u = c .before .before in
-    c .g-head .ensures k ∙ head-four 8 (s u .args .live) dct8 (take 8 (cols k (s u .args .c))) (four u k) (s u .pre .0) (are u k)
+    let u = c .before .before .before .before .before .before in
+    c .records .ensures k ∙ c .before .before .before .g-head .ensures k ∙ head-four 8 (s u .args .live) dct8 (take 8 (cols k (s u .args .c))) (four u k) (s u .pre .0) (are u k)
 
 pub head8-spec : {M : Type 1} → statement M
 head8-spec =
@@ -68,5 +77,8 @@ head8-spec =
     upto-requires-3
     upto-requires-4
     slice-aggregate-g-head
+    slice-aggregate-g-head-2
     g-head-requires
+    slice-aggregate-records
+    records-requires
     returns)

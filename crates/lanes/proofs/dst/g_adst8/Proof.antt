@@ -1,7 +1,8 @@
 -- `lanes::dst::g_adst8` meets its contract: its table's rows have room. Assumes nothing.
 use mathlib.Core.Path.{refl}
-use lib.Dec.{lit<, lit≤}
+use native.Mathlib.Omega.{arith}
 use borrow.Author.Needs.{needs}
+use lib.Dec.{lit<}
 use Rattle.whole.proofs.Parts.{rows-light}
 use Rattle.tables.specs.Dst.{adst8}
 use Rattle.tables.proofs.Rules.{dst-sizes}
@@ -12,10 +13,13 @@ slice-aggregate-g-dst : tie.Need-slice-aggregate-g-dst
 slice-aggregate-g-dst c = search needs
 
 g-dst-requires : tie.Need-g-dst-requires
-g-dst-requires c κs = ((lit≤ tt, refl, rows-light 8 adst8 (dst-sizes .1) (lit< tt)), c .before .pre)
+g-dst-requires c κs = let s = c .before .before in ((refl, rows-light 8 adst8 (dst-sizes .1) (lit< tt)), (s .pre .0, omega (arith, s .pre .1)))
+
+same-length : tie.Need-same-length
+same-length c = search needs
 
 returns : tie.Need-returns
-returns c = c .g-dst .ensures
+returns c = search needs
 
 pub g-adst8-spec : {M : Type 1} → statement M
-g-adst8-spec = tie.close (tie.spec slice-aggregate-g-dst g-dst-requires returns)
+g-adst8-spec = tie.close (tie.spec slice-aggregate-g-dst g-dst-requires same-length returns)

@@ -24,7 +24,7 @@ abbrev xs : tie.Start → ℕ → List ℤ
 xs s k = flat k (s .args .c .now)
 
 ok : (s : tie.Start) → QuarterOk (s .args .d) (length (lanesOf (s .args .c .now)))
-ok s = quarter-ok (s .args .d) (length (lanesOf (s .args .c .now))) (s .pre .0)
+ok s = quarter-ok (s .pre .0)
 
 -- the list has room for four records throughout
 long : (s : tie.Start) → 16 ≤ length (s .args .e .now)

@@ -1,11 +1,11 @@
--- `lanes::flat::sixteen` meets its contract: the rows that the joins make of the halves are the table's columns. Assumes nothing.
+-- `lanes::dct::g_dct16` meets its contract: the rows that the joins make of the halves are the table's columns. Assumes nothing.
 use mathlib.Core.Path.{_≡_, refl, sym, subst}
+use mathlib.Core.Logic.{inl, inr}
 use mathlib.Core.List.{List}
 use Prim.Native.Nat.{ℕ}
 use native.Mathlib.Omega.{arith}
 use borrow.Author.Needs.{needs}
-use mathlib.Core.Logic.{inl, inr}
-use lib.Dec.{T, lit≤}
+use lib.Dec.{T}
 use lib.IntN.{ℤ}
 use lib.ListN.{length, take}
 use Rattle.whole.specs.Sums.{foldRow}
@@ -14,14 +14,14 @@ use Rattle.whole.proofs.Parts.{join-room, join-holds}
 use Rattle.tables.specs.Half.{half8, half16}
 use Rattle.lanes.specs.Flat.{lanesOf, flat, oddRow, quarterRow, OddHalf}
 use Rattle.lanes.proofs.Flats.{count-high, lanes-are, oddOk, odd-are, odd-holds}
-use Rattle.lanes.proofs.flat.sixteen.Statement.{statement}
-use Rattle.lanes.proofs.flat.sixteen.Tie as tie
+use Rattle.lanes.proofs.dct.g_dct16.Statement.{statement}
+use Rattle.lanes.proofs.dct.g_dct16.Tie as tie
 
 abbrev xs : tie.Start → ℕ → List ℤ
 xs s k = flat k (s .args .c .now)
 
 count : (s : tie.Start) → length (lanesOf (s .args .c .now)) ≡ 16
-count s = lanes-are 16 (s .args .c .now) (s .pre .0)
+count s = lanes-are 16 (s .args .c .now) (s .pre .0 .0)
 
 half : (s : tie.Start) (h : ℕ) (t : List ℤ) (start : ℕ) → T (oddOk h t start 16) → OddHalf h t start (length (lanesOf (s .args .c .now)))
 half s h t start ok = subst (λ (n : ℕ). OddHalf h t start n) (sym (count s)) (odd-are h t start 16 ok)
@@ -38,51 +38,33 @@ is4 p k = record { is = p .first-four .ensures k }
 is8 : (p : tie.After-grow8) (k : ℕ) → Holds 8 r8 (xs (p .before .before .before .before .before) k) (take 8 (flat k (p .grow8 .last .1 .0)))
 is8 p k = join-holds (is4 (p .before .before .before) k) (odd-holds 4 half8 2 (xs (p .before .before .before .before .before) k)) (p .grow8 .ensures k)
 
-slice-aggregate-first-four : tie.Need-slice-aggregate-first-four
-slice-aggregate-first-four c = search needs
-
 first-four-requires : tie.Need-first-four-requires
-first-four-requires c κs = let s = c .before in (inr (inl (refl, count s)), lit≤ tt, s .pre .1)
-
-slice-aggregate-grow8 : tie.Need-slice-aggregate-grow8
-slice-aggregate-grow8 c = search needs
+first-four-requires c κs = let s = c .before in (inr (inl (refl, count s)), omega (arith, count-high (s .args .e .now), s .pre .1), s .pre .0 .1)
 
 grow8-requires : tie.Need-grow8-requires
 grow8-requires c κs =
     let p = c .before .before in
     let s = p .before .before in (
-      (half s 4 half8 2 tt, omega (arith, p .first-four .kept .1 .0, count-high (p .first-four .last .1 .0)), s .pre .1),
-      λ k. join-room (is4 p k) (odd-holds 4 half8 2 (xs s k)) (s .pre .1 k) tt,
+      (half s 4 half8 2 tt, omega (arith, s .pre .1, p .first-four .kept .1 .0, count-high (p .first-four .last .1 .0)), s .pre .0 .1),
+      λ k. join-room (is4 p k) (odd-holds 4 half8 2 (xs s k)) (s .pre .0 .1 k) tt,
     )
 
-slice-aggregate-last : tie.Need-slice-aggregate-last
-slice-aggregate-last c = search needs
-
-slice-aggregate-last-2 : tie.Need-slice-aggregate-last-2
-slice-aggregate-last-2 c = search needs
-
-last-requires : tie.Need-last-requires
-last-requires c κs =
-    let p = c .before .before .before in
+grow16-requires : tie.Need-grow16-requires
+grow16-requires c κs =
+    let p = c .before .before in
     let s = p .before .before .before .before .before in (
-      (half s 8 half16 1 tt, omega (arith, p .grow8 .kept .1 .0, p .before .before .before .first-four .kept .1 .0, count-high (p .grow8 .last .1 .0)), lit≤ tt, s .pre .1),
-      λ k. join-room (is8 p k) (odd-holds 8 half16 1 (xs s k)) (s .pre .1 k) tt,
+      (half s 8 half16 1 tt, omega (arith, s .pre .1, p .grow8 .kept .1 .0, p .before .before .before .first-four .kept .1 .0, count-high (p .grow8 .last .1 .0)), s .pre .0 .1),
+      λ k. join-room (is8 p k) (odd-holds 8 half16 1 (xs s k)) (s .pre .0 .1 k) tt,
     )
+
+same-length : tie.Need-same-length
+same-length c = search needs
 
 returns : tie.Need-returns
 returns c k =
     let p = c .before .before .before .before in
-    join-holds (is8 p k) (odd-holds 8 half16 1 (xs (p .before .before .before .before .before) k)) (c .last .ensures k) .is
+    join-holds (is8 p k) (odd-holds 8 half16 1 (xs (p .before .before .before .before .before) k)) (c .before .grow16 .ensures k) .is
 
-pub sixteen-spec : {M : Type 1} → statement M
-sixteen-spec =
-    tie.close
-    (tie.spec
-    slice-aggregate-first-four
-    first-four-requires
-    slice-aggregate-grow8
-    grow8-requires
-    slice-aggregate-last
-    slice-aggregate-last-2
-    last-requires
-    returns)
+pub g-dct16-spec : {M : Type 1} → statement M
+g-dct16-spec =
+    tie.close (tie.spec first-four-requires grow8-requires grow16-requires same-length returns)

@@ -1,11 +1,11 @@
--- `lanes::flat::thirty_two` meets its contract: the rows that the joins make of the halves are the table's columns. Assumes nothing.
+-- `lanes::dct::g_dct32` meets its contract: the rows that the joins make of the halves are the table's columns. Assumes nothing.
 use mathlib.Core.Path.{_≡_, refl, sym, subst}
+use mathlib.Core.Logic.{inr}
 use mathlib.Core.List.{List}
 use Prim.Native.Nat.{ℕ}
 use native.Mathlib.Omega.{arith}
 use borrow.Author.Needs.{needs}
-use mathlib.Core.Logic.{inr}
-use lib.Dec.{T, lit≤}
+use lib.Dec.{T}
 use lib.IntN.{ℤ}
 use lib.ListN.{length, take}
 use Rattle.whole.specs.Sums.{foldRow}
@@ -14,14 +14,14 @@ use Rattle.whole.proofs.Parts.{join-room, join-holds}
 use Rattle.tables.specs.Half.{half8, half16, half32}
 use Rattle.lanes.specs.Flat.{lanesOf, flat, oddRow, quarterRow, OddHalf}
 use Rattle.lanes.proofs.Flats.{count-high, lanes-are, oddOk, odd-are, odd-holds}
-use Rattle.lanes.proofs.flat.thirty_two.Statement.{statement}
-use Rattle.lanes.proofs.flat.thirty_two.Tie as tie
+use Rattle.lanes.proofs.dct.g_dct32.Statement.{statement}
+use Rattle.lanes.proofs.dct.g_dct32.Tie as tie
 
 abbrev xs : tie.Start → ℕ → List ℤ
 xs s k = flat k (s .args .c .now)
 
 count : (s : tie.Start) → length (lanesOf (s .args .c .now)) ≡ 32
-count s = lanes-are 32 (s .args .c .now) (s .pre .0)
+count s = lanes-are 32 (s .args .c .now) (s .pre .0 .0)
 
 half : (s : tie.Start) (h : ℕ) (t : List ℤ) (start : ℕ) → T (oddOk h t start 32) → OddHalf h t start (length (lanesOf (s .args .c .now)))
 half s h t start ok = subst (λ (n : ℕ). OddHalf h t start n) (sym (count s)) (odd-are h t start 32 ok)
@@ -44,64 +44,48 @@ is8 p k = join-holds (is4 (p .before .before .before) k) (odd-holds 4 half8 4 (x
 is16 : (p : tie.After-grow16) (k : ℕ) → Holds 16 r16 (xs (p .before .before .before .before .before .before .before .before) k) (take 16 (flat k (p .grow16 .last .1 .0)))
 is16 p k = join-holds (is8 (p .before .before .before) k) (odd-holds 8 half16 2 (xs (p .before .before .before .before .before .before .before .before) k)) (p .grow16 .ensures k)
 
-slice-aggregate-first-four : tie.Need-slice-aggregate-first-four
-slice-aggregate-first-four c = search needs
-
 first-four-requires : tie.Need-first-four-requires
-first-four-requires c κs = let s = c .before in (inr (inr (refl, count s)), lit≤ tt, s .pre .1)
-
-slice-aggregate-grow8 : tie.Need-slice-aggregate-grow8
-slice-aggregate-grow8 c = search needs
+first-four-requires c κs = let s = c .before in (inr (inr (refl, count s)), omega (arith, count-high (s .args .e .now), s .pre .1), s .pre .0 .1)
 
 grow8-requires : tie.Need-grow8-requires
 grow8-requires c κs =
     let p = c .before .before in
     let s = p .before .before in (
-      (half s 4 half8 4 tt, omega (arith, p .first-four .kept .1 .0, count-high (p .first-four .last .1 .0)), s .pre .1),
-      λ k. join-room (is4 p k) (odd-holds 4 half8 4 (xs s k)) (s .pre .1 k) tt,
+      (half s 4 half8 4 tt, omega (arith, s .pre .1, p .first-four .kept .1 .0, count-high (p .first-four .last .1 .0)), s .pre .0 .1),
+      λ k. join-room (is4 p k) (odd-holds 4 half8 4 (xs s k)) (s .pre .0 .1 k) tt,
     )
-
-slice-aggregate-grow16 : tie.Need-slice-aggregate-grow16
-slice-aggregate-grow16 c = search needs
 
 grow16-requires : tie.Need-grow16-requires
 grow16-requires c κs =
     let p = c .before .before in
     let s = p .before .before .before .before .before in (
-      (half s 8 half16 2 tt, omega (arith, p .grow8 .kept .1 .0, p .before .before .before .first-four .kept .1 .0, count-high (p .grow8 .last .1 .0)), s .pre .1),
-      λ k. join-room (is8 p k) (odd-holds 8 half16 2 (xs s k)) (s .pre .1 k) tt,
+      (half s 8 half16 2 tt, omega (arith, s .pre .1, p .grow8 .kept .1 .0, p .before .before .before .first-four .kept .1 .0, count-high (p .grow8 .last .1 .0)), s .pre .0 .1),
+      λ k. join-room (is8 p k) (odd-holds 8 half16 2 (xs s k)) (s .pre .0 .1 k) tt,
     )
 
-slice-aggregate-last : tie.Need-slice-aggregate-last
-slice-aggregate-last c = search needs
-
-slice-aggregate-last-2 : tie.Need-slice-aggregate-last-2
-slice-aggregate-last-2 c = search needs
-
-last-requires : tie.Need-last-requires
-last-requires c κs =
-    let p = c .before .before .before in
+grow32-requires : tie.Need-grow32-requires
+grow32-requires c κs =
+    let p = c .before .before in
     let s = p .before .before .before .before .before .before .before .before in (
-      (half s 16 half32 1 tt, omega (arith, p .grow16 .kept .1 .0, p .before .before .before .grow8 .kept .1 .0, p .before .before .before .before .before .before .first-four .kept .1 .0, count-high (p .grow16 .last .1 .0)), lit≤ tt, s .pre .1),
-      λ k. join-room (is16 p k) (odd-holds 16 half32 1 (xs s k)) (s .pre .1 k) tt,
+      (half s 16 half32 1 tt, omega (arith, s .pre .1, p .grow16 .kept .1 .0, p .before .before .before .grow8 .kept .1 .0, p .before .before .before .before .before .before .first-four .kept .1 .0, count-high (p .grow16 .last .1 .0)), s .pre .0 .1),
+      λ k. join-room (is16 p k) (odd-holds 16 half32 1 (xs s k)) (s .pre .0 .1 k) tt,
     )
+
+same-length : tie.Need-same-length
+same-length c = search needs
 
 returns : tie.Need-returns
 returns c k =
     let p = c .before .before .before .before in
-    join-holds (is16 p k) (odd-holds 16 half32 1 (xs (p .before .before .before .before .before .before .before .before) k)) (c .last .ensures k) .is
+    join-holds (is16 p k) (odd-holds 16 half32 1 (xs (p .before .before .before .before .before .before .before .before) k)) (c .before .grow32 .ensures k) .is
 
-pub thirty-two-spec : {M : Type 1} → statement M
-thirty-two-spec =
+pub g-dct32-spec : {M : Type 1} → statement M
+g-dct32-spec =
     tie.close
     (tie.spec
-    slice-aggregate-first-four
     first-four-requires
-    slice-aggregate-grow8
     grow8-requires
-    slice-aggregate-grow16
     grow16-requires
-    slice-aggregate-last
-    slice-aggregate-last-2
-    last-requires
+    grow32-requires
+    same-length
     returns)
