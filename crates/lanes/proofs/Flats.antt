@@ -25,7 +25,7 @@ use native.Mathlib.Nat as N
 use native.Mathlib.Numerals.{add-one}
 use native.Mathlib.Omega.{arith}
 use native.Mathlib.Decide.{ℕ-discrete}
-use lib.Dec.{T, eqb, eqb→eq, leb, ltb, ltb→lt}
+use lib.Dec.{T, eqb, eqb→eq, leb, ltb, ltb→lt, lit<}
 use lib.IntN.{ℤ, pos, natAbs, _+ℤ_, _-ℤ_, _*ℤ_}
 use lib.ListN.{length, getD, set, take, length-set, length-take}
 use lib.Seq.{getD-set-same, getD-set-other, getD-take}
@@ -33,6 +33,7 @@ use mir.Syntax.{w32}
 use mir.Val.{SFits}
 use Rattle.whole.specs.Sums.{tab, dotZ, spread, sizeOf, Within, termRow, termSize, foldAt, foldRow}
 use Rattle.whole.specs.Parts.{placeAt, JoinRoom}
+use Rattle.whole.specs.Lanes.{placeFrom, puts}
 use Rattle.whole.proofs.Tests.{and-left, and-right, below, below-at}
 use Rattle.whole.proofs.Size.{abs-mul, fits-size}
 use Rattle.whole.proofs.Sums.{dot-step, step-size, term-step, term-room, within-all}
@@ -42,28 +43,21 @@ use Rattle.whole.proofs.Fill.{filled-all}
 use Rattle.whole.proofs.Butterfly.{Holds, fold-low, fold-high}
 use Rattle.whole.proofs.Lanes.{mac-mul, mac-add, mac-is, two-sum, two-diff, two-add, two-sub, col-length, col-at, col-set}
 use Rattle.whole.proofs.LaneTurns.{MulAdd}
+use Rattle.whole.proofs.Records.{count-least, count-most, record-read, record-set}
 use Rattle.tables.specs.Dense.{firstOf}
 use Rattle.tables.proofs.First.{first-length, first-in, first-out, first-is}
 use Rattle.tables.proofs.LiveLanes.{Folding, fold-start, fold-more, Keeping, keep-start, keep-more}
 use Rattle.lanes.specs.View.{lane, cols}
-use Rattle.lanes.specs.Flat.{lanesOf, flat, weight, oddRow, oddsOf, half2, half4, firstRow, Quarter, OddHalf}
+use Rattle.lanes.specs.Flat.{fourOf, lanesOf, flat, weight, oddRow, oddsOf, half2, half4, firstRow, Quarter, OddHalf}
 use Rattle.lanes.specs.declared.Lane.{Lane}
 use Rattle.lanes.proofs.Fours.{none, none-is}
 
 -- ---- how many records
 pub count-low : (xs : List ℤ) → 4 * length (lanesOf xs) ≤ length xs
-count-low [] = zero-le
-count-low (a ∷ []) = zero-le
-count-low (a ∷ b ∷ []) = zero-le
-count-low (a ∷ b ∷ c ∷ []) = zero-le
-count-low (a ∷ b ∷ c ∷ d ∷ xs) = omega (arith, count-low xs)
+count-low = count-least 4 (lit< tt) fourOf
 
 pub count-high : (xs : List ℤ) → length xs < 4 * length (lanesOf xs) + 4
-count-high [] = omega arith
-count-high (a ∷ []) = omega arith
-count-high (a ∷ b ∷ []) = omega arith
-count-high (a ∷ b ∷ c ∷ []) = omega arith
-count-high (a ∷ b ∷ c ∷ d ∷ xs) = omega (arith, count-high xs)
+count-high = count-most 4 (lit< tt) fourOf
 
 pub lanes-are : (n : ℕ) (xs : List ℤ) → length xs ≡ 4 * n → length (lanesOf xs) ≡ n
 lanes-are n xs e = omega (arith, count-low xs, count-high xs)
@@ -81,49 +75,12 @@ pub first-put : (k : ℕ) (ls : List Lane) (r : Lane) → 1 ≤ length ls → ta
 first-put k [] r h = absurd (N.not-suc-le-zero h)
 first-put k (l ∷ ls) r h = refl
 
-at-suc : (k : ℕ) (xs : List ℤ) (j p : ℕ) → p ≡ 4 * j → p + 4 ≤ length xs
-    → lane (getD xs p (pos 0), getD xs (suc p) (pos 0), getD xs (suc (suc p)) (pos 0), getD xs (suc (suc (suc p))) (pos 0)) k ≡ getD (flat k xs) j (pos 0)
-at-suc k [] j p e h = absurd (omega arith)
-at-suc k (a ∷ []) j p e h = absurd (omega arith)
-at-suc k (a ∷ b ∷ []) j p e h = absurd (omega arith)
-at-suc k (a ∷ b ∷ c ∷ []) j p e h = absurd (omega arith)
-at-suc k (a ∷ b ∷ c ∷ d ∷ xs) zero zero e h = refl
-at-suc k (a ∷ b ∷ c ∷ d ∷ xs) zero (suc p) e h = absurd (omega arith)
-at-suc k (a ∷ b ∷ c ∷ d ∷ xs) (suc j) (suc (suc (suc (suc p)))) e h = at-suc k xs j p (omega arith) (omega arith)
-at-suc k (a ∷ b ∷ c ∷ d ∷ xs) (suc j) zero e h = absurd (omega arith)
-at-suc k (a ∷ b ∷ c ∷ d ∷ xs) (suc j) (suc zero) e h = absurd (omega arith)
-at-suc k (a ∷ b ∷ c ∷ d ∷ xs) (suc j) (suc (suc zero)) e h = absurd (omega arith)
-at-suc k (a ∷ b ∷ c ∷ d ∷ xs) (suc j) (suc (suc (suc zero))) e h = absurd (omega arith)
+module _ (xs : List ℤ) (j : ℕ) (h : 4 * j + 4 ≤ length xs) where
+  pub record-at : (k : ℕ) → lane (fourOf (λ i. getD xs (placeFrom (4 * j) i) (pos 0))) k ≡ getD (flat k xs) j (pos 0)
+  record-at = record-read 4 (lit< tt) fourOf xs j h lane
 
-put-suc : (u v w z : ℤ) (xs : List ℤ) (j p : ℕ) → p ≡ 4 * j → p + 4 ≤ length xs
-    → lanesOf (set (set (set (set xs p u) (suc p) v) (suc (suc p)) w) (suc (suc (suc p))) z) ≡ set (lanesOf xs) j (u, v, w, z)
-put-suc u v w z [] j p e h = absurd (omega arith)
-put-suc u v w z (a ∷ []) j p e h = absurd (omega arith)
-put-suc u v w z (a ∷ b ∷ []) j p e h = absurd (omega arith)
-put-suc u v w z (a ∷ b ∷ c ∷ []) j p e h = absurd (omega arith)
-put-suc u v w z (a ∷ b ∷ c ∷ d ∷ xs) zero zero e h = refl
-put-suc u v w z (a ∷ b ∷ c ∷ d ∷ xs) zero (suc p) e h = absurd (omega arith)
-put-suc u v w z (a ∷ b ∷ c ∷ d ∷ xs) (suc j) (suc (suc (suc (suc p)))) e h = ap (λ l. (a, b, c, d) ∷ l) (put-suc u v w z xs j p (omega arith) (omega arith))
-put-suc u v w z (a ∷ b ∷ c ∷ d ∷ xs) (suc j) zero e h = absurd (omega arith)
-put-suc u v w z (a ∷ b ∷ c ∷ d ∷ xs) (suc j) (suc zero) e h = absurd (omega arith)
-put-suc u v w z (a ∷ b ∷ c ∷ d ∷ xs) (suc j) (suc (suc zero)) e h = absurd (omega arith)
-put-suc u v w z (a ∷ b ∷ c ∷ d ∷ xs) (suc j) (suc (suc (suc zero))) e h = absurd (omega arith)
-
-module _ (xs : List ℤ) (j p : ℕ) (e : p ≡ 4 * j) (h : p + 4 ≤ length xs) where
-  one : p + 1 ≡ suc p
-  one = omega arith
-
-  two : p + 2 ≡ suc (suc p)
-  two = omega arith
-
-  three : p + 3 ≡ suc (suc (suc p))
-  three = omega arith
-
-  pub record-at : (k : ℕ) → lane (getD xs p (pos 0), getD xs (p + 1) (pos 0), getD xs (p + 2) (pos 0), getD xs (p + 3) (pos 0)) k ≡ getD (flat k xs) j (pos 0)
-  record-at k = (λ i. lane (getD xs p (pos 0), getD xs (one i) (pos 0), getD xs (two i) (pos 0), getD xs (three i) (pos 0)) k) ∙ at-suc k xs j p e h
-
-  pub record-put : (u v w z : ℤ) → lanesOf (set (set (set (set xs p u) (p + 1) v) (p + 2) w) (p + 3) z) ≡ set (lanesOf xs) j (u, v, w, z)
-  record-put u v w z = (λ i. lanesOf (set (set (set (set xs p u) (one i) v) (two i) w) (three i) z)) ∙ put-suc u v w z xs j p e h
+  pub record-put : (v : ℕ → ℤ) → lanesOf (puts 4 (placeFrom (4 * j)) v xs) ≡ set (lanesOf xs) j (fourOf v)
+  record-put = record-set 4 (lit< tt) fourOf xs j h (λ f. refl)
 
 -- ---- after i turns, the sum of the first i products
 module _ (xs : ℕ → List ℤ) (small : (k : ℕ) → Within (2 ^ 19) (xs k)) (w : ℕ → ℤ) (p : ℕ → ℕ) (count : ℕ) (room : termSize w count < 4096) where

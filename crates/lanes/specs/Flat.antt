@@ -1,5 +1,5 @@
 -- Records in a flat list, four numbers each, and the odd half of a DCT of them. Definitions only.
---     lanesOf xs            the records of a flat list: numbers 0 to 3, 4 to 7, and so on
+--     fourOf, lanesOf xs    the record of four numbers, and the records of a flat list of four each
 --     flat k xs             the numbers k of these records: those of transform k
 --     oddRow, oddsOf        the weights of output m for the inputs start, 3 start, 5 start, ..: row m of a table of h by h; and the sums of all h outputs
 --     half2, half4          the odd halves of the 2- and of the 4-point DCT
@@ -18,15 +18,15 @@ use lib.IntN.{ℤ, pos, negℤ}
 use lib.ListN.{length, getD, take}
 use Rattle.whole.specs.Sums.{tab, dotZ, Within, termRow, termSize, mulʳ, unit, foldRow}
 use Rattle.whole.specs.Parts.{placeAt}
+use Rattle.whole.specs.Lanes.{recordsOf}
 use Rattle.lanes.specs.declared.Lane.{Lane}
 use Rattle.lanes.specs.View.{cols}
 
+abbrev pub fourOf : (ℕ → ℤ) → Lane
+fourOf f = (f 0, f 1, f 2, f 3)
+
 abbrev pub lanesOf : List ℤ → List Lane
-lanesOf [] = []
-lanesOf (a ∷ []) = []
-lanesOf (a ∷ b ∷ []) = []
-lanesOf (a ∷ b ∷ c ∷ []) = []
-lanesOf (a ∷ b ∷ c ∷ d ∷ xs) = (a, b, c, d) ∷ lanesOf xs
+lanesOf xs = recordsOf 4 fourOf xs
 
 abbrev pub flat : ℕ → List ℤ → List ℤ
 flat k xs = cols k (lanesOf xs)

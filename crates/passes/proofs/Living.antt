@@ -6,9 +6,7 @@
 --     dead-lines                       the lines and the places together
 --     by-columns, by-rows              the same by the order of the coefficients
 --     entry-zero, settled-zero         0 is loaded as 0, and a step keeps it
---     first-front                      lists with the same first live numbers
---     places-less                      the places of fewer numbers
---     live-asks, live-left             what a kernel asks of a line, and what it leaves
+--     live-asks                        what a kernel asks of a line
 --     zero-loaded                      what is loaded of the dead part
 --     live-bounded, side-least         what the rows leave is within 2^30; a side has at least four numbers
 --     live-block                       load, rows, the step between and columns over the live part are the definition
@@ -153,11 +151,6 @@ by-rows rowwise cs sw sh cols live rows e h dl df r x p q s =
     other (inr u) = inl u
 
 -- ---- lists with the same first numbers
-pub first-front : (live n : ℕ) (xs : List ℤ) (f : ℕ → ℤ) → live ≤ n → length xs ≡ n → ((k : ℕ) → k < live → getD xs k (pos 0) ≡ f k) → firstOf live xs ≡ firstOf live (tab n f)
-first-front live n xs f h e low =
-    first-is live (tab n f) (firstOf live xs) (first-length live xs ∙ e ∙ sym (length-tab n f))
-    (λ k l. first-in live xs k l ∙ low k l ∙ sym (tab-at (pos 0) n f k (N.lt-of-lt-of-le l h))) (λ k l q. first-out live xs k l)
-
 -- ---- the whole block
 module _ (w h cols rows : ℕ) (n m code kind : ℕ) (step : ℤ → ℤ) (keeps : step (pos 0) ≡ pos 0) (cs a b c d : ℕ → ℕ → ℤ)
     (dead : (r x : ℕ) → r < h → x < w → ((rows ≤ r) ⊎ (cols ≤ x)) → cs r x ≡ pos 0) (wide : cols ≤ w) (high : rows ≤ h)
@@ -206,11 +199,7 @@ round-zero shift h = same-at 17 (λ s. roundShift s (pos 0)) (λ _. pos 0) tt sh
 pub settled-zero : (depth shift : ℕ) → depth ≤ 12 → shift ≤ 16 → settledTo (depth + 7) shift (pos 0) ≡ pos 0
 settled-zero depth shift h l = ap (clampTo (depth + 7)) (round-zero shift l) ∙ clamp-zero depth h
 
--- ---- the places of fewer numbers
-pub places-less : {L m j n : ℕ} {sp : ℕ → ℕ → ℕ} → j ≤ m → Places L m sp n → Places L j sp n
-places-less h q = record { inside = λ k i a b. q .inside k i a (N.lt-of-lt-of-le b h); apart = λ k i l z a b c d e. q .apart k i l z a (N.lt-of-lt-of-le b h) c (N.lt-of-lt-of-le d h) e }
-
--- ---- what a kernel asks of a line whose first live numbers are f, and what it leaves
+-- ---- what a kernel asks of a line whose first live numbers are f
 module _ (n live w : ℕ) (f : ℕ → ℤ) (xs : List ℤ) (e : cut n ≡ w) (h : live ≤ w) (long : length xs ≡ w) (low : (k : ℕ) → k < live → getD xs k (pos 0) ≡ f k) where
   pub live-asks : ((k : ℕ) → k < live → natAbs (f k) ≤ 2 ^ 19) → Live (cut n) live xs
   live-asks small = (
@@ -220,9 +209,6 @@ module _ (n live w : ℕ) (f : ℕ → ℤ) (xs : List ℤ) (e : cut n ≡ w) (h
       first-within live xs (2 ^ 19) (λ k p q. subst (λ (z : ℤ). natAbs z ≤ 2 ^ 19) (sym (low k p)) (small k p)),
     ),
   )
-
-  pub live-left : (code : ℕ) → firstDense n code live xs ≡ firstDense n code live (tab w f)
-  live-left code = ap (denseOf n code) (first-front live w xs f h long low)
 
 -- ---- sizes
 pub live-bounded : (n code w h live : ℕ) (f g : ℕ → ℕ → ℤ) → hasKind n code ≡ true → live ≤ w → Bounded (2 ^ 19) live h g → Same w h f (rowsBy (firstDense n code live) w g) → Bounded (2 ^ 30) w h f

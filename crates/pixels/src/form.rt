@@ -1,6 +1,6 @@
 // In what the pixel calls differ, apart from their output. A form goes by value, last among the arguments.
 pub struct Form {
-    pub lanes: usize, // How many lines go through a kernel together: 1 or 4.
+    pub lanes: usize, // How many lines go through a kernel together: 1, 4 or 8.
     pub rowwise: bool, // Whether the coefficients stand row after row; where not, column after column.
     pub strict: bool, // Whether a coefficient out of range is refused; where not, it is clamped.
 }
@@ -17,6 +17,12 @@ pub const STRICT_LANES: Form = Form {
     strict: true,
 };
 
+pub const STRICT_LANES8: Form = Form {
+    lanes: 8,
+    rowwise: false,
+    strict: true,
+};
+
 pub const STRICT_ROWS: Form = Form {
     lanes: 1,
     rowwise: true,
@@ -25,6 +31,12 @@ pub const STRICT_ROWS: Form = Form {
 
 pub const STRICT_ROWS_LANES: Form = Form {
     lanes: 4,
+    rowwise: true,
+    strict: true,
+};
+
+pub const STRICT_ROWS_LANES8: Form = Form {
+    lanes: 8,
     rowwise: true,
     strict: true,
 };

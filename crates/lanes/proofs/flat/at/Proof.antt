@@ -1,11 +1,13 @@
 -- `lanes::flat::at` meets its contract: the four numbers from place 4 j on are record j. Assumes nothing.
 use mathlib.Core.Path.{refl, _∙_}
-use Prim.Native.Nat.{_+_, _*_}
+use Prim.Native.Nat.{_*_}
 use borrow.Author.Needs.{needs}
 use lib.IntN.{pos}
 use lib.ListN.{getD}
+use Rattle.whole.specs.Lanes.{placeFrom}
 use Rattle.whole.proofs.Num.{back}
 use Rattle.lanes.specs.View.{lane}
+use Rattle.lanes.specs.Flat.{fourOf}
 use Rattle.lanes.proofs.Fours.{four-agree}
 use Rattle.lanes.proofs.Flats.{record-at}
 use Rattle.lanes.proofs.flat.at.Statement.{statement}
@@ -51,9 +53,8 @@ returns : tie.Need-returns
 returns c k =
     let s = c .before .before .before .before in
     let xs = s .args .c .now in
-    let p = 4 * s .args .j in
-    four-agree _ (lane (getD xs p (pos 0), getD xs (p + 1) (pos 0), getD xs (p + 2) (pos 0), getD xs (p + 3) (pos 0))) (back (c .before .before .before .t6 .given)) (back (c .before .before .t10 .given)) (back (c .before .t14 .given)) (back (c .t18 .given)) (λ j. refl) k
-    ∙ record-at xs (s .args .j) p refl (s .pre) k
+    four-agree _ (lane (fourOf (λ i. getD xs (placeFrom (4 * s .args .j) i) (pos 0)))) (back (c .before .before .before .t6 .given)) (back (c .before .before .t10 .given)) (back (c .before .t14 .given)) (back (c .t18 .given)) (λ j. refl) k
+    ∙ record-at xs (s .args .j) (s .pre) k
 
 pub at-spec : {M : Type 1} → statement M
 at-spec =

@@ -1,11 +1,13 @@
 -- `lanes::flat::put` meets its contract: the four numbers from place 4 j on are stored. Assumes nothing.
 use mathlib.Core.Path.{refl, ap, _∙_}
-use Prim.Native.Nat.{_*_}
 use native.Mathlib.Omega.{arith}
 use borrow.Author.Needs.{needs}
 use lib.ListN.{set, length-set}
 use Rattle.whole.proofs.Num.{back}
+use Rattle.whole.proofs.LaneTurns.{again}
+use Rattle.lanes.specs.View.{lane}
 use Rattle.lanes.specs.Flat.{lanesOf}
+use Rattle.lanes.specs.declared.Lane.{Lane}
 use Rattle.lanes.proofs.Flats.{record-put}
 use Rattle.lanes.proofs.flat.put.Statement.{statement}
 use Rattle.lanes.proofs.flat.put.Tie as tie
@@ -47,16 +49,16 @@ slice-set-from-v3 : tie.Need-slice-set-from-v3
 slice-set-from-v3 c = simp length-set (omega (arith, c .before .before .before .before .pre))
 
 same-length : tie.Need-same-length
-same-length c = search needs
+same-length c = simp length-set refl
 
 returns : tie.Need-returns
 returns c =
     let s = c .before .before .before .before in
-    let xs = s .args .r .now in
-    let g = c .struct-told4 .given in
+    let g = c .before .before .before .struct-told .given in
     let l = s .args .l in
-    record-put xs (s .args .j) (4 * s .args .j) refl (s .pre) _ _ _ _
-    ∙ ap (set (lanesOf xs) (s .args .j)) (λ i. (back {z = l .0} (g .0 .1) i, back {z = l .1} (g .1 .0 .1) i, back {z = l .2} (g .1 .1 .0 .1) i, back {z = l .3} (g .1 .1 .1 .0 .1) i))
+    let w : Lane = (again (l .0), again (l .1), again (l .2), again (l .3)) in
+    record-put (s .args .r .now) (s .args .j) (s .pre) (lane w)
+    ∙ ap (set (lanesOf (s .args .r .now)) (s .args .j)) (λ i. (back {z = l .0} (g .0 .1) i, back {z = l .1} (g .1 .0 .1) i, back {z = l .2} (g .1 .1 .0 .1) i, back {z = l .3} (g .1 .1 .1 .0 .1) i))
 
 pub put-spec : {M : Type 1} → statement M
 put-spec =

@@ -7,7 +7,8 @@ use borrow.Author.Needs.{needs}
 use lib.IntN.{ℤ, pos}
 use lib.ListN.{length, getD}
 use Rattle.whole.specs.Grid.{gridOf}
-use Rattle.passes.proofs.Living.{live-asks, live-left}
+use Rattle.groups.proofs.Together.{live-left}
+use Rattle.passes.proofs.Living.{live-asks}
 use Rattle.passes.proofs.scalar.one_col.Statement.{statement}
 use Rattle.passes.proofs.scalar.one_col.Tie as tie
 
@@ -43,7 +44,7 @@ returns c =
     let t = u .before .before .before in
     let s = t .before .before .before in (
       λ r h. p .put-col .ensures .0 r h
-          ∙ ap (λ q. getD q r (pos 0)) (u .inv-tx1d .ensures ∙ live-left (s .args .n) (s .args .live) (s .args .sh) (column s) (t .take-col .last .0) (s .pre .0 .1) (s .pre .0 .5) (t .take-col .kept .0 ∙ sym (s .pre .0 .4)) (t .take-col .ensures) (s .args .code)),
+          ∙ ap (λ q. getD q r (pos 0)) (u .inv-tx1d .ensures ∙ live-left (s .args .n) (s .args .live) (s .args .sh) (column s) (t .take-col .last .0) (s .pre .0 .5) (t .take-col .kept .0 ∙ sym (s .pre .0 .4)) (t .take-col .ensures) (s .args .code)),
       p .put-col .ensures .1,
     )
 
