@@ -81,6 +81,10 @@ CALLS = {
     21: _byte_add("inv_txfm_add_rows_bytes, four lanes"),
     22: _byte_lossless("lossless_step_bytes"),
     23: _byte_lossless("lossless_undo_bytes"),
+    24: _recon("inv_txfm_recon_f32, eight lanes"),
+    25: _recon("inv_txfm_recon_f32_rows, eight lanes"),
+    26: _add("inv_txfm_add, eight lanes"),
+    27: _add("inv_txfm_add_rows, eight lanes"),
     28: _history("history_step", ("depth", *_GLASS, "row", "column"), ("levels",), ("plane", *_MEMORY)),
     29: _history("history_undo", _GLASS, (), ("plane", *_MEMORY)),
     30: _history("history_withdraw", (*_GLASS, "number"), (), ("plane", *_MEMORY)),
@@ -92,7 +96,7 @@ CALLS = {
 }
 
 CLAMPED = (14, 15, 16, 17)
-ROWS = (10, 11, 12, 13, 20, 21)
+ROWS = (10, 11, 12, 13, 20, 21, 25, 27)
 
 # The wide call of each call on bytes.
 WIDE = {18: 3, 19: 4, 20: 12, 21: 13, 22: 8, 23: 9}

@@ -75,14 +75,18 @@ static const struct pixel_form {
 #define RECON(name, clamps, rows) {#name, NULL, name, clamps, rows}
     ADD(panel_inv_txfm_add, 0, 0),
     ADD(panel_inv_txfm_add_lanes, 0, 0),
+    ADD(panel_inv_txfm_add_lanes8, 0, 0),
     ADD(panel_inv_txfm_add_rows, 0, 1),
     ADD(panel_inv_txfm_add_rows_lanes, 0, 1),
+    ADD(panel_inv_txfm_add_rows_lanes8, 0, 1),
     ADD(panel_inv_txfm_add_clamped, 1, 0),
     ADD(panel_inv_txfm_add_clamped_lanes, 1, 0),
     RECON(panel_inv_txfm_recon_f32, 0, 0),
     RECON(panel_inv_txfm_recon_f32_lanes, 0, 0),
+    RECON(panel_inv_txfm_recon_f32_lanes8, 0, 0),
     RECON(panel_inv_txfm_recon_f32_rows, 0, 1),
     RECON(panel_inv_txfm_recon_f32_rows_lanes, 0, 1),
+    RECON(panel_inv_txfm_recon_f32_rows_lanes8, 0, 1),
     RECON(panel_inv_txfm_recon_f32_clamped, 1, 0),
     RECON(panel_inv_txfm_recon_f32_clamped_lanes, 1, 0),
 #undef ADD

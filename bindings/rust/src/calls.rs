@@ -159,12 +159,20 @@ calls! {
         "inv_txfm_recon_f32_lanes", "1")]
     inv_txfm_recon_f32_lanes = panel_inv_txfm_recon_f32_lanes(
         out: &mut [f32], coeff: &[i32], txtp: usize, tx: usize, bd: u32, pred: &[i32]);
+    #[doc = recon!("Eight lanes at a time; answers and numbers are those of [`inv_txfm_recon_f32`].",
+        "inv_txfm_recon_f32_lanes8", "1")]
+    inv_txfm_recon_f32_lanes8 = panel_inv_txfm_recon_f32_lanes8(
+        out: &mut [f32], coeff: &[i32], txtp: usize, tx: usize, bd: u32, pred: &[i32]);
     #[doc = recon!("Coefficients in row order: row r, column x is number r * sw + x.", "inv_txfm_recon_f32_rows", "4")]
     inv_txfm_recon_f32_rows = panel_inv_txfm_recon_f32_rows(
         out: &mut [f32], coeff: &[i32], txtp: usize, tx: usize, bd: u32, pred: &[i32]);
     #[doc = recon!("Four lanes at a time; answers and numbers are those of [`inv_txfm_recon_f32_rows`].",
         "inv_txfm_recon_f32_rows_lanes", "4")]
     inv_txfm_recon_f32_rows_lanes = panel_inv_txfm_recon_f32_rows_lanes(
+        out: &mut [f32], coeff: &[i32], txtp: usize, tx: usize, bd: u32, pred: &[i32]);
+    #[doc = recon!("Eight lanes at a time; answers and numbers are those of [`inv_txfm_recon_f32_rows`].",
+        "inv_txfm_recon_f32_rows_lanes8", "4")]
+    inv_txfm_recon_f32_rows_lanes8 = panel_inv_txfm_recon_f32_rows_lanes8(
         out: &mut [f32], coeff: &[i32], txtp: usize, tx: usize, bd: u32, pred: &[i32]);
     #[doc = recon!("As the Rust: column order, and coefficients out of range are clamped; for comparison with it.",
         "inv_txfm_recon_f32_clamped", "1")]
@@ -181,12 +189,19 @@ calls! {
     #[doc = add!("Four lanes at a time; answers and samples are those of [`inv_txfm_add`].", "inv_txfm_add_lanes", "1")]
     inv_txfm_add_lanes = panel_inv_txfm_add_lanes(
         dst: &mut [i32], stride: usize, coeff: &[i32], txtp: usize, tx: usize, bd: u32);
+    #[doc = add!("Eight lanes at a time; answers and samples are those of [`inv_txfm_add`].", "inv_txfm_add_lanes8", "1")]
+    inv_txfm_add_lanes8 = panel_inv_txfm_add_lanes8(
+        dst: &mut [i32], stride: usize, coeff: &[i32], txtp: usize, tx: usize, bd: u32);
     #[doc = add!("Coefficients in row order: row r, column x is number r * sw + x.", "inv_txfm_add_rows", "4")]
     inv_txfm_add_rows = panel_inv_txfm_add_rows(
         dst: &mut [i32], stride: usize, coeff: &[i32], txtp: usize, tx: usize, bd: u32);
     #[doc = add!("Four lanes at a time; answers and samples are those of [`inv_txfm_add_rows`].",
         "inv_txfm_add_rows_lanes", "4")]
     inv_txfm_add_rows_lanes = panel_inv_txfm_add_rows_lanes(
+        dst: &mut [i32], stride: usize, coeff: &[i32], txtp: usize, tx: usize, bd: u32);
+    #[doc = add!("Eight lanes at a time; answers and samples are those of [`inv_txfm_add_rows`].",
+        "inv_txfm_add_rows_lanes8", "4")]
+    inv_txfm_add_rows_lanes8 = panel_inv_txfm_add_rows_lanes8(
         dst: &mut [i32], stride: usize, coeff: &[i32], txtp: usize, tx: usize, bd: u32);
     #[doc = add!("As the Rust: column order, and coefficients out of range are clamped; for comparison with it.",
         "inv_txfm_add_clamped", "1")]

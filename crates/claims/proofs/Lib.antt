@@ -2,7 +2,8 @@
 --     Answers    every call's answer and what it leaves
 --     Promises   each public function and each export: asks nothing, and promises the definition that the other files speak of
 --     Slices     which slice each refusal names
---     Pixels     one lane and four lanes, dense table products, each pixel
+--     Pixels     the forms of a call agree, dense table products, each pixel
+--     Lanes      one, four and eight lanes agree, the idle half reaches no result, a row's numbers come from that row alone
 --     Strict     coefficients out of range
 --     Orders     coefficients in row order and in column order
 --     Chroma     pair by pair, and how far a pair drifts that is turned back
@@ -23,6 +24,7 @@ pub mod Answers
 pub mod Promises
 pub mod Slices
 pub mod Pixels
+pub mod Lanes
 pub mod Strict
 pub mod Orders
 pub mod Chroma

@@ -1,6 +1,6 @@
 -- Pixels, from document 01, "From coefficients to pixels" and "How much each call owes". Assumes nothing.
---     passes-lanes              one lane and four lanes leave the same numbers after the passes
---     add-calls, float-calls    the calls of one lane and of four: the same answer, and the same slice left
+--     passes-lanes              the passes in any two forms leave the same numbers
+--     add-calls, float-calls    the calls in any two forms: the same answer, and the same slice left
 --     residual-dense            the residual of row y, column x, written out: two dense table products with a rounding after each, for every size, type, depth and order
 --     add-pixel                 the pixel of row y, column x of an accepted add call, by the sample that stood there and the residual of dense table products
 --     float-pixel               so of an accepted float call, by the prediction; as an f32 with exactly that value

@@ -36,14 +36,18 @@ use Rattle.av1.proofs.av1_inv_dct.Kinds as Av1Dct
 use Rattle.av1_wht.proofs.av1_inv_wht4x4.Kinds as Av1Wht
 use Rattle.pixels.proofs.inv_txfm_recon_f32.Reads as inv_txfm_recon_f32
 use Rattle.pixels.proofs.inv_txfm_recon_f32_lanes.Reads as inv_txfm_recon_f32_lanes
+use Rattle.pixels.proofs.inv_txfm_recon_f32_lanes8.Reads as inv_txfm_recon_f32_lanes8
 use Rattle.pixels.proofs.inv_txfm_recon_f32_rows.Reads as inv_txfm_recon_f32_rows
 use Rattle.pixels.proofs.inv_txfm_recon_f32_rows_lanes.Reads as inv_txfm_recon_f32_rows_lanes
+use Rattle.pixels.proofs.inv_txfm_recon_f32_rows_lanes8.Reads as inv_txfm_recon_f32_rows_lanes8
 use Rattle.pixels.proofs.inv_txfm_recon_f32_clamped.Reads as inv_txfm_recon_f32_clamped
 use Rattle.pixels.proofs.inv_txfm_recon_f32_clamped_lanes.Reads as inv_txfm_recon_f32_clamped_lanes
 use Rattle.pixels.proofs.inv_txfm_add.Reads as inv_txfm_add
 use Rattle.pixels.proofs.inv_txfm_add_lanes.Reads as inv_txfm_add_lanes
+use Rattle.pixels.proofs.inv_txfm_add_lanes8.Reads as inv_txfm_add_lanes8
 use Rattle.pixels.proofs.inv_txfm_add_rows.Reads as inv_txfm_add_rows
 use Rattle.pixels.proofs.inv_txfm_add_rows_lanes.Reads as inv_txfm_add_rows_lanes
+use Rattle.pixels.proofs.inv_txfm_add_rows_lanes8.Reads as inv_txfm_add_rows_lanes8
 use Rattle.pixels.proofs.inv_txfm_add_clamped.Reads as inv_txfm_add_clamped
 use Rattle.pixels.proofs.inv_txfm_add_clamped_lanes.Reads as inv_txfm_add_clamped_lanes
 use Rattle.chroma.proofs.cctx.Reads as cctx
@@ -67,14 +71,18 @@ use Rattle.av1.proofs.av1_inv_dct.Reads as av1_inv_dct
 use Rattle.av1_wht.proofs.av1_inv_wht4x4.Reads as av1_inv_wht4x4
 use Rattle.panel.proofs.panel_inv_txfm_recon_f32.Reads as panel_inv_txfm_recon_f32
 use Rattle.panel.proofs.panel_inv_txfm_recon_f32_lanes.Reads as panel_inv_txfm_recon_f32_lanes
+use Rattle.panel.proofs.panel_inv_txfm_recon_f32_lanes8.Reads as panel_inv_txfm_recon_f32_lanes8
 use Rattle.panel.proofs.panel_inv_txfm_recon_f32_rows.Reads as panel_inv_txfm_recon_f32_rows
 use Rattle.panel.proofs.panel_inv_txfm_recon_f32_rows_lanes.Reads as panel_inv_txfm_recon_f32_rows_lanes
+use Rattle.panel.proofs.panel_inv_txfm_recon_f32_rows_lanes8.Reads as panel_inv_txfm_recon_f32_rows_lanes8
 use Rattle.panel.proofs.panel_inv_txfm_recon_f32_clamped.Reads as panel_inv_txfm_recon_f32_clamped
 use Rattle.panel.proofs.panel_inv_txfm_recon_f32_clamped_lanes.Reads as panel_inv_txfm_recon_f32_clamped_lanes
 use Rattle.panel.proofs.panel_inv_txfm_add.Reads as panel_inv_txfm_add
 use Rattle.panel.proofs.panel_inv_txfm_add_lanes.Reads as panel_inv_txfm_add_lanes
+use Rattle.panel.proofs.panel_inv_txfm_add_lanes8.Reads as panel_inv_txfm_add_lanes8
 use Rattle.panel.proofs.panel_inv_txfm_add_rows.Reads as panel_inv_txfm_add_rows
 use Rattle.panel.proofs.panel_inv_txfm_add_rows_lanes.Reads as panel_inv_txfm_add_rows_lanes
+use Rattle.panel.proofs.panel_inv_txfm_add_rows_lanes8.Reads as panel_inv_txfm_add_rows_lanes8
 use Rattle.panel.proofs.panel_inv_txfm_add_clamped.Reads as panel_inv_txfm_add_clamped
 use Rattle.panel.proofs.panel_inv_txfm_add_clamped_lanes.Reads as panel_inv_txfm_add_clamped_lanes
 use Rattle.panel.proofs.panel_cctx.Reads as panel_cctx
@@ -119,8 +127,14 @@ panel-inv-txfm-recon-f32-promised = (λ κs a. tt, λ κs a x left p. p)
 pub inv-txfm-recon-f32-lanes-promised : Promised 3 Recon.ps Recon.r inv_txfm_recon_f32_lanes.Asked inv_txfm_recon_f32_lanes.Learnt (filling strict)
 inv-txfm-recon-f32-lanes-promised = (λ κs a. tt, λ κs a x left p. p)
 
+pub inv-txfm-recon-f32-lanes8-promised : Promised 3 Recon.ps Recon.r inv_txfm_recon_f32_lanes8.Asked inv_txfm_recon_f32_lanes8.Learnt (filling strict)
+inv-txfm-recon-f32-lanes8-promised = (λ κs a. tt, λ κs a x left p. p)
+
 pub panel-inv-txfm-recon-f32-lanes-promised : Promised 3 Recon.ps Recon.r panel_inv_txfm_recon_f32_lanes.Asked panel_inv_txfm_recon_f32_lanes.Learnt (filling strict)
 panel-inv-txfm-recon-f32-lanes-promised = (λ κs a. tt, λ κs a x left p. p)
+
+pub panel-inv-txfm-recon-f32-lanes8-promised : Promised 3 Recon.ps Recon.r panel_inv_txfm_recon_f32_lanes8.Asked panel_inv_txfm_recon_f32_lanes8.Learnt (filling strict)
+panel-inv-txfm-recon-f32-lanes8-promised = (λ κs a. tt, λ κs a x left p. p)
 
 pub inv-txfm-recon-f32-rows-promised : Promised 3 Recon.ps Recon.r inv_txfm_recon_f32_rows.Asked inv_txfm_recon_f32_rows.Learnt (filling strictRows)
 inv-txfm-recon-f32-rows-promised = (λ κs a. tt, λ κs a x left p. p)
@@ -131,8 +145,14 @@ panel-inv-txfm-recon-f32-rows-promised = (λ κs a. tt, λ κs a x left p. p)
 pub inv-txfm-recon-f32-rows-lanes-promised : Promised 3 Recon.ps Recon.r inv_txfm_recon_f32_rows_lanes.Asked inv_txfm_recon_f32_rows_lanes.Learnt (filling strictRows)
 inv-txfm-recon-f32-rows-lanes-promised = (λ κs a. tt, λ κs a x left p. p)
 
+pub inv-txfm-recon-f32-rows-lanes8-promised : Promised 3 Recon.ps Recon.r inv_txfm_recon_f32_rows_lanes8.Asked inv_txfm_recon_f32_rows_lanes8.Learnt (filling strictRows)
+inv-txfm-recon-f32-rows-lanes8-promised = (λ κs a. tt, λ κs a x left p. p)
+
 pub panel-inv-txfm-recon-f32-rows-lanes-promised : Promised 3 Recon.ps Recon.r panel_inv_txfm_recon_f32_rows_lanes.Asked panel_inv_txfm_recon_f32_rows_lanes.Learnt (filling strictRows)
 panel-inv-txfm-recon-f32-rows-lanes-promised = (λ κs a. tt, λ κs a x left p. p)
+
+pub panel-inv-txfm-recon-f32-rows-lanes8-promised : Promised 3 Recon.ps Recon.r panel_inv_txfm_recon_f32_rows_lanes8.Asked panel_inv_txfm_recon_f32_rows_lanes8.Learnt (filling strictRows)
+panel-inv-txfm-recon-f32-rows-lanes8-promised = (λ κs a. tt, λ κs a x left p. p)
 
 pub inv-txfm-recon-f32-clamped-promised : Promised 3 Recon.ps Recon.r inv_txfm_recon_f32_clamped.Asked inv_txfm_recon_f32_clamped.Learnt (filling clamped)
 inv-txfm-recon-f32-clamped-promised = (λ κs a. tt, λ κs a x left p. p)
@@ -160,8 +180,14 @@ panel-inv-txfm-add-promised = (λ κs a. tt, λ κs a x left p. p)
 pub inv-txfm-add-lanes-promised : Promised 2 Add.ps Add.r inv_txfm_add_lanes.Asked inv_txfm_add_lanes.Learnt (adding strict)
 inv-txfm-add-lanes-promised = (λ κs a. tt, λ κs a x left p. p)
 
+pub inv-txfm-add-lanes8-promised : Promised 2 Add.ps Add.r inv_txfm_add_lanes8.Asked inv_txfm_add_lanes8.Learnt (adding strict)
+inv-txfm-add-lanes8-promised = (λ κs a. tt, λ κs a x left p. p)
+
 pub panel-inv-txfm-add-lanes-promised : Promised 2 Add.ps Add.r panel_inv_txfm_add_lanes.Asked panel_inv_txfm_add_lanes.Learnt (adding strict)
 panel-inv-txfm-add-lanes-promised = (λ κs a. tt, λ κs a x left p. p)
+
+pub panel-inv-txfm-add-lanes8-promised : Promised 2 Add.ps Add.r panel_inv_txfm_add_lanes8.Asked panel_inv_txfm_add_lanes8.Learnt (adding strict)
+panel-inv-txfm-add-lanes8-promised = (λ κs a. tt, λ κs a x left p. p)
 
 pub inv-txfm-add-rows-promised : Promised 2 Add.ps Add.r inv_txfm_add_rows.Asked inv_txfm_add_rows.Learnt (adding strictRows)
 inv-txfm-add-rows-promised = (λ κs a. tt, λ κs a x left p. p)
@@ -172,8 +198,14 @@ panel-inv-txfm-add-rows-promised = (λ κs a. tt, λ κs a x left p. p)
 pub inv-txfm-add-rows-lanes-promised : Promised 2 Add.ps Add.r inv_txfm_add_rows_lanes.Asked inv_txfm_add_rows_lanes.Learnt (adding strictRows)
 inv-txfm-add-rows-lanes-promised = (λ κs a. tt, λ κs a x left p. p)
 
+pub inv-txfm-add-rows-lanes8-promised : Promised 2 Add.ps Add.r inv_txfm_add_rows_lanes8.Asked inv_txfm_add_rows_lanes8.Learnt (adding strictRows)
+inv-txfm-add-rows-lanes8-promised = (λ κs a. tt, λ κs a x left p. p)
+
 pub panel-inv-txfm-add-rows-lanes-promised : Promised 2 Add.ps Add.r panel_inv_txfm_add_rows_lanes.Asked panel_inv_txfm_add_rows_lanes.Learnt (adding strictRows)
 panel-inv-txfm-add-rows-lanes-promised = (λ κs a. tt, λ κs a x left p. p)
+
+pub panel-inv-txfm-add-rows-lanes8-promised : Promised 2 Add.ps Add.r panel_inv_txfm_add_rows_lanes8.Asked panel_inv_txfm_add_rows_lanes8.Learnt (adding strictRows)
+panel-inv-txfm-add-rows-lanes8-promised = (λ κs a. tt, λ κs a x left p. p)
 
 pub inv-txfm-add-clamped-promised : Promised 2 Add.ps Add.r inv_txfm_add_clamped.Asked inv_txfm_add_clamped.Learnt (adding clamped)
 inv-txfm-add-clamped-promised = (λ κs a. tt, λ κs a x left p. p)

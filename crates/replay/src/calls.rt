@@ -9,7 +9,7 @@ use stream::nums;
 // Whether there is a call of that number.
 pub fn known(call: u64) -> bool {
     match call {
-        1..=23 | 28..=33 | 34 | 35 => true,
+        1..=35 => true,
         _ => false,
     }
 }
@@ -34,7 +34,7 @@ pub fn on_bytes(call: u64) -> bool {
 pub fn slices(call: u64) -> usize {
     match call {
         34 | 35 => 1,
-        1 | 2 | 10 | 11 | 14 | 15 => 3,
+        1 | 2 | 10 | 11 | 14 | 15 | 24 | 25 => 3,
         _ => 2,
     }
 }
@@ -50,8 +50,8 @@ pub fn words(call: u64) -> usize
         29 | 32 | 33 => 3,
         30 | 31 => 4,
         28 => 6,
-        1 | 2 | 5 | 10 | 11 | 14 | 15 => 3,
-        3 | 4 | 12 | 13 | 16..=21 => 4,
+        1 | 2 | 5 | 10 | 11 | 14 | 15 | 24 | 25 => 3,
+        3 | 4 | 12 | 13 | 16..=21 | 26 | 27 => 4,
         _ => 5,
     }
 }
@@ -87,6 +87,8 @@ fn recon(call: u64, words: [u64; 6], coeff: &[i32], pred: &[i32], out: &mut [f32
         2 => pixels::inv_txfm_recon_f32_lanes(out, coeff, txtp, tx, depth, pred),
         10 => pixels::inv_txfm_recon_f32_rows(out, coeff, txtp, tx, depth, pred),
         11 => pixels::inv_txfm_recon_f32_rows_lanes(out, coeff, txtp, tx, depth, pred),
+        24 => pixels::inv_txfm_recon_f32_lanes8(out, coeff, txtp, tx, depth, pred),
+        25 => pixels::inv_txfm_recon_f32_rows_lanes8(out, coeff, txtp, tx, depth, pred),
         14 => pixels::inv_txfm_recon_f32_clamped(out, coeff, txtp, tx, depth, pred),
         _ => pixels::inv_txfm_recon_f32_clamped_lanes(out, coeff, txtp, tx, depth, pred),
     }
@@ -103,6 +105,8 @@ fn add(call: u64, words: [u64; 6], coeff: &[i32], plane: &mut [i32]) -> Answer {
         4 => pixels::inv_txfm_add_lanes(plane, stride, coeff, txtp, tx, depth),
         12 => pixels::inv_txfm_add_rows(plane, stride, coeff, txtp, tx, depth),
         13 => pixels::inv_txfm_add_rows_lanes(plane, stride, coeff, txtp, tx, depth),
+        26 => pixels::inv_txfm_add_lanes8(plane, stride, coeff, txtp, tx, depth),
+        27 => pixels::inv_txfm_add_rows_lanes8(plane, stride, coeff, txtp, tx, depth),
         16 => pixels::inv_txfm_add_clamped(plane, stride, coeff, txtp, tx, depth),
         _ => pixels::inv_txfm_add_clamped_lanes(plane, stride, coeff, txtp, tx, depth),
     }
@@ -176,7 +180,7 @@ pub fn run_list(call: u64, words: [u64; 6], list: &mut [i32]) -> Answer {
 // Runs a call of two slices.
 pub fn run(call: u64, words: [u64; 6], a: &mut [i32], b: &mut [i32]) -> Answer {
     match call {
-        3 | 4 | 12 | 13 | 16 | 17 => add(call, words, a, b),
+        3 | 4 | 12 | 13 | 16 | 17 | 26 | 27 => add(call, words, a, b),
         5 => chroma_pairs(words, a, b),
         6 => wht::fwht4x4(a, b),
         7 => wht::iwht4x4(a, b),
