@@ -24,7 +24,6 @@ use lib.Dec.{lit≤}
 use lib.IntN.{ℤ, pos, natAbs}
 use lib.ListN.{length, getD, take, drop}
 use Rattle.whole.specs.Sums.{tab}
-use Rattle.whole.specs.Lanes.{Places}
 use Rattle.whole.specs.Grid.{rowsBy, colsBy, Same, Bounded}
 use Rattle.whole.proofs.Cells.{under}
 use Rattle.whole.proofs.Sums.{within-all}
@@ -34,7 +33,7 @@ use Rattle.tables.specs.Dense.{firstOf, denseOf, firstDense}
 use Rattle.tables.specs.Sizes.{cut}
 use Rattle.tables.specs.Kinds.{hasKind}
 use Rattle.tables.proofs.Kernels.{Length, n4, n8, n16, n32, n64, lengths, dense-size}
-use Rattle.tables.proofs.First.{past, first-is, first-in, first-out, first-length, first-within, first-tab, dense-zero}
+use Rattle.tables.proofs.First.{past, first-length, first-within, first-tab, dense-zero}
 use Rattle.kernels.specs.Inputs.{Live}
 use Rattle.whole.specs.Numbers.{clamp, roundShift}
 use Rattle.whole.proofs.Tables.{same-at}
