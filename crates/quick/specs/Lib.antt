@@ -1,0 +1,2 @@
+-- The calls of the fast form.
+pub mod Quick

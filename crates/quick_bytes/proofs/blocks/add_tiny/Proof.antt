@@ -1,0 +1,37 @@
+-- `quick_bytes::blocks::add_tiny` meets its contract: areas for sides of 8, cleared. Assumes nothing.
+use mathlib.Core.Path.{refl}
+use native.Mathlib.Nat as N
+use borrow.Author.Needs.{needs}
+use lib.Dec.{lit≤}
+use Rattle.fast.proofs.Blocks.{few-columns}
+use Rattle.quick_bytes.proofs.blocks.add_tiny.Statement.{statement}
+use Rattle.quick_bytes.proofs.blocks.add_tiny.Tie as tie
+
+slice-aggregate-run : tie.Need-slice-aggregate-run
+slice-aggregate-run c = refl
+
+slice-aggregate-run-2 : tie.Need-slice-aggregate-run-2
+slice-aggregate-run-2 c = refl
+
+slice-aggregate-run-3 : tie.Need-slice-aggregate-run-3
+slice-aggregate-run-3 c = refl
+
+run-requires : tie.Need-run-requires
+run-requires c κs = let s = c .before .before .before .before .before in (s .pre .0, s .pre .1, s .pre .2, N.le-trans (s .pre .3) (lit≤ tt), N.le-trans (s .pre .4) (lit≤ tt), few-columns 8 (s .pre .0 .across) (s .pre .0 .down) (s .pre .3) (s .pre .4) (lit≤ tt))
+
+same-length : tie.Need-same-length
+same-length c = search needs
+
+returns : tie.Need-returns
+returns c = search needs
+
+pub add-tiny-spec : {M : Type 1} → statement M
+add-tiny-spec =
+    tie.close
+    (tie.spec
+    slice-aggregate-run
+    slice-aggregate-run-2
+    slice-aggregate-run-3
+    run-requires
+    same-length
+    returns)

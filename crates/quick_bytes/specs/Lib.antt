@@ -1,0 +1,2 @@
+-- Planes of bytes in the fast form.
+pub mod Held
