@@ -1,6 +1,6 @@
 /* driver FORM TX TXTP W H LIVE DEPTH ROUNDS: runs one form of a pixel call on a block that depends on nothing else, and writes
    the nanoseconds of the quickest of ROUNDS rounds (a line), then the pixels' bytes. FORM: 0 the Rust's add, 1 one lane, 2 four
-   lanes, 3 eight; 4 to 7 the same for the float call. LIVE: 0 every coefficient, 1 the first four of the first row and of the first
+   lanes, 3 eight, 4 fast; 5 to 9 the same for the float call. LIVE: 0 every coefficient, 1 the first four of the first row and of the first
    column, 2 those of the first four rows and columns. With 0 rounds the call is made once. No C library: memcpy and memset are
    the ones below, for both sides. Everything but those, the Rust and the archive is in section .driver, which is not counted. */
 #include "panel.h"
@@ -66,10 +66,12 @@ DRIVER static uint32_t one(size_t form, size_t txtp, size_t tx, size_t n, size_t
     case 1: return panel_inv_txfm_add(plane, 4096, 64, coeff, n, txtp, tx, bd).number;
     case 2: return panel_inv_txfm_add_lanes(plane, 4096, 64, coeff, n, txtp, tx, bd).number;
     case 3: return panel_inv_txfm_add_lanes8(plane, 4096, 64, coeff, n, txtp, tx, bd).number;
-    case 4: rust_float(out, cells, coeff, n, txtp, tx, bd, pred, cells); return 0;
-    case 5: return panel_inv_txfm_recon_f32(out, cells, coeff, n, txtp, tx, bd, pred, cells).number;
-    case 6: return panel_inv_txfm_recon_f32_lanes(out, cells, coeff, n, txtp, tx, bd, pred, cells).number;
-    default: return panel_inv_txfm_recon_f32_lanes8(out, cells, coeff, n, txtp, tx, bd, pred, cells).number;
+    case 4: return panel_inv_txfm_add_fast(plane, 4096, 64, coeff, n, txtp, tx, bd).number;
+    case 5: rust_float(out, cells, coeff, n, txtp, tx, bd, pred, cells); return 0;
+    case 6: return panel_inv_txfm_recon_f32(out, cells, coeff, n, txtp, tx, bd, pred, cells).number;
+    case 7: return panel_inv_txfm_recon_f32_lanes(out, cells, coeff, n, txtp, tx, bd, pred, cells).number;
+    case 8: return panel_inv_txfm_recon_f32_lanes8(out, cells, coeff, n, txtp, tx, bd, pred, cells).number;
+    default: return panel_inv_txfm_recon_f32_fast(out, cells, coeff, n, txtp, tx, bd, pred, cells).number;
     }
 }
 
@@ -104,7 +106,7 @@ DRIVER void begin(long *stack) {
         if (!k || took < best) best = took;
     }
     line(best);
-    call(1, 1, form < 4 ? (long)plane : (long)out, 4096 * 4);
+    call(1, 1, form < 5 ? (long)plane : (long)out, 4096 * 4);
     finish(0);
 }
 

@@ -328,6 +328,12 @@ CALLS = {
     33: history_model.history_fold,
     34: older(av1_model.dct),
     35: older(av1_model.wht),
+    36: inv_txfm_recon_f32,
+    37: functools.partial(inv_txfm_recon_f32, rows=True),
+    38: inv_txfm_add,
+    39: functools.partial(inv_txfm_add, rows=True),
+    40: inv_txfm_add_bytes,
+    41: functools.partial(inv_txfm_add_bytes, rows=True),
 }
 
 

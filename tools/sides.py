@@ -62,9 +62,10 @@ def run(command, data):
 
 # The calls that the Rust has, each with the number under which tools/oracle has it. It clamps coefficients: so its answers
 # are those of the clamping calls, and of the others on what they accept. It reads them column by column. It has no plane of
-# bytes: there it answers the wide call on the same numbers. Its lanes are four: with them it answers the calls of eight.
+# bytes: there it answers the wide call on the same numbers. Its lanes are four: with them it answers the calls of eight, and
+# with its scalar passes the fast ones.
 RUST_CALLS = {1: 1, 2: 2, 3: 3, 4: 4, 5: 5, 6: 6, 14: 1, 15: 2, 16: 3, 17: 4, 10: 1, 11: 2, 12: 3, 13: 4}
-RUST_CALLS |= {18: 3, 19: 4, 20: 3, 21: 4, 24: 2, 25: 2, 26: 4, 27: 4}
+RUST_CALLS |= {18: 3, 19: 4, 20: 3, 21: 4, 24: 2, 25: 2, 26: 4, 27: 4, 36: 1, 37: 1, 38: 3, 39: 3, 40: 3, 41: 3}
 
 
 def in_columns(size, coefficients):

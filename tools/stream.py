@@ -93,13 +93,19 @@ CALLS = {
     33: _history("history_fold", _GLASS, (), _MEMORY),
     34: Call("av1_inv_dct", "av1 dct", ("length", "bits"), ("list",), (0,)),
     35: Call("av1_inv_wht4x4", "av1 wht", ("bits",), ("list",), (0,)),
+    36: _recon("inv_txfm_recon_f32, fast"),
+    37: _recon("inv_txfm_recon_f32_rows, fast"),
+    38: _add("inv_txfm_add, fast"),
+    39: _add("inv_txfm_add_rows, fast"),
+    40: _byte_add("inv_txfm_add_bytes, fast"),
+    41: _byte_add("inv_txfm_add_rows_bytes, fast"),
 }
 
 CLAMPED = (14, 15, 16, 17)
-ROWS = (10, 11, 12, 13, 20, 21, 25, 27)
+ROWS = (10, 11, 12, 13, 20, 21, 25, 27, 37, 39, 41)
 
 # The wide call of each call on bytes.
-WIDE = {18: 3, 19: 4, 20: 12, 21: 13, 22: 8, 23: 9}
+WIDE = {18: 3, 19: 4, 20: 12, 21: 13, 22: 8, 23: 9, 40: 38, 41: 39}
 
 
 def of_kind(*kinds):

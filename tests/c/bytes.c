@@ -57,8 +57,10 @@ static const struct form {
 } forms[] = {
     {"panel_inv_txfm_add_bytes", panel_inv_txfm_add_bytes, 0},
     {"panel_inv_txfm_add_bytes_lanes", panel_inv_txfm_add_bytes_lanes, 0},
+    {"panel_inv_txfm_add_bytes_fast", panel_inv_txfm_add_bytes_fast, 0},
     {"panel_inv_txfm_add_rows_bytes", panel_inv_txfm_add_rows_bytes, 1},
     {"panel_inv_txfm_add_rows_bytes_lanes", panel_inv_txfm_add_rows_bytes_lanes, 1},
+    {"panel_inv_txfm_add_rows_bytes_fast", panel_inv_txfm_add_rows_bytes_fast, 1},
 };
 
 /* One coefficient by its row and column: the pixels are `rest`, but for the first `count` of row `row`. */

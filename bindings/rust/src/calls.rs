@@ -163,6 +163,10 @@ calls! {
         "inv_txfm_recon_f32_lanes8", "1")]
     inv_txfm_recon_f32_lanes8 = panel_inv_txfm_recon_f32_lanes8(
         out: &mut [f32], coeff: &[i32], txtp: usize, tx: usize, bd: u32, pred: &[i32]);
+    #[doc = recon!("The fast form; answers and numbers are those of [`inv_txfm_recon_f32`].",
+        "inv_txfm_recon_f32_fast", "1")]
+    inv_txfm_recon_f32_fast = panel_inv_txfm_recon_f32_fast(
+        out: &mut [f32], coeff: &[i32], txtp: usize, tx: usize, bd: u32, pred: &[i32]);
     #[doc = recon!("Coefficients in row order: row r, column x is number r * sw + x.", "inv_txfm_recon_f32_rows", "4")]
     inv_txfm_recon_f32_rows = panel_inv_txfm_recon_f32_rows(
         out: &mut [f32], coeff: &[i32], txtp: usize, tx: usize, bd: u32, pred: &[i32]);
@@ -173,6 +177,10 @@ calls! {
     #[doc = recon!("Eight lanes at a time; answers and numbers are those of [`inv_txfm_recon_f32_rows`].",
         "inv_txfm_recon_f32_rows_lanes8", "4")]
     inv_txfm_recon_f32_rows_lanes8 = panel_inv_txfm_recon_f32_rows_lanes8(
+        out: &mut [f32], coeff: &[i32], txtp: usize, tx: usize, bd: u32, pred: &[i32]);
+    #[doc = recon!("The fast form; answers and numbers are those of [`inv_txfm_recon_f32_rows`].",
+        "inv_txfm_recon_f32_rows_fast", "4")]
+    inv_txfm_recon_f32_rows_fast = panel_inv_txfm_recon_f32_rows_fast(
         out: &mut [f32], coeff: &[i32], txtp: usize, tx: usize, bd: u32, pred: &[i32]);
     #[doc = recon!("As the Rust: column order, and coefficients out of range are clamped; for comparison with it.",
         "inv_txfm_recon_f32_clamped", "1")]
@@ -192,6 +200,9 @@ calls! {
     #[doc = add!("Eight lanes at a time; answers and samples are those of [`inv_txfm_add`].", "inv_txfm_add_lanes8", "1")]
     inv_txfm_add_lanes8 = panel_inv_txfm_add_lanes8(
         dst: &mut [i32], stride: usize, coeff: &[i32], txtp: usize, tx: usize, bd: u32);
+    #[doc = add!("The fast form; answers and samples are those of [`inv_txfm_add`].", "inv_txfm_add_fast", "1")]
+    inv_txfm_add_fast = panel_inv_txfm_add_fast(
+        dst: &mut [i32], stride: usize, coeff: &[i32], txtp: usize, tx: usize, bd: u32);
     #[doc = add!("Coefficients in row order: row r, column x is number r * sw + x.", "inv_txfm_add_rows", "4")]
     inv_txfm_add_rows = panel_inv_txfm_add_rows(
         dst: &mut [i32], stride: usize, coeff: &[i32], txtp: usize, tx: usize, bd: u32);
@@ -202,6 +213,10 @@ calls! {
     #[doc = add!("Eight lanes at a time; answers and samples are those of [`inv_txfm_add_rows`].",
         "inv_txfm_add_rows_lanes8", "4")]
     inv_txfm_add_rows_lanes8 = panel_inv_txfm_add_rows_lanes8(
+        dst: &mut [i32], stride: usize, coeff: &[i32], txtp: usize, tx: usize, bd: u32);
+    #[doc = add!("The fast form; answers and samples are those of [`inv_txfm_add_rows`].",
+        "inv_txfm_add_rows_fast", "4")]
+    inv_txfm_add_rows_fast = panel_inv_txfm_add_rows_fast(
         dst: &mut [i32], stride: usize, coeff: &[i32], txtp: usize, tx: usize, bd: u32);
     #[doc = add!("As the Rust: column order, and coefficients out of range are clamped; for comparison with it.",
         "inv_txfm_add_clamped", "1")]
@@ -221,6 +236,10 @@ calls! {
         "inv_txfm_add_bytes_lanes", "1")]
     inv_txfm_add_bytes_lanes = panel_inv_txfm_add_bytes_lanes(
         dst: &mut [u8], stride: usize, coeff: &[i32], txtp: usize, tx: usize, bd: u32);
+    #[doc = add!(bytes: "The fast form; answers and bytes are those of [`inv_txfm_add_bytes`].",
+        "inv_txfm_add_bytes_fast", "1")]
+    inv_txfm_add_bytes_fast = panel_inv_txfm_add_bytes_fast(
+        dst: &mut [u8], stride: usize, coeff: &[i32], txtp: usize, tx: usize, bd: u32);
     #[doc = add!(bytes: "A plane of bytes. Row order; the bytes are the samples that [`inv_txfm_add_rows`] leaves.",
         "inv_txfm_add_rows_bytes", "4")]
     inv_txfm_add_rows_bytes = panel_inv_txfm_add_rows_bytes(
@@ -228,6 +247,10 @@ calls! {
     #[doc = add!(bytes: "Four lanes at a time; answers and bytes are those of [`inv_txfm_add_rows_bytes`].",
         "inv_txfm_add_rows_bytes_lanes", "4")]
     inv_txfm_add_rows_bytes_lanes = panel_inv_txfm_add_rows_bytes_lanes(
+        dst: &mut [u8], stride: usize, coeff: &[i32], txtp: usize, tx: usize, bd: u32);
+    #[doc = add!(bytes: "The fast form; answers and bytes are those of [`inv_txfm_add_rows_bytes`].",
+        "inv_txfm_add_rows_bytes_fast", "4")]
+    inv_txfm_add_rows_bytes_fast = panel_inv_txfm_add_rows_bytes_fast(
         dst: &mut [u8], stride: usize, coeff: &[i32], txtp: usize, tx: usize, bd: u32);
 
     /// Chroma pairs, turned in their places: u cos - v sin and u sin + v cos, over 256, halves away from zero.

@@ -37,17 +37,21 @@ use Rattle.av1_wht.proofs.av1_inv_wht4x4.Kinds as Av1Wht
 use Rattle.pixels.proofs.inv_txfm_recon_f32.Reads as inv_txfm_recon_f32
 use Rattle.pixels.proofs.inv_txfm_recon_f32_lanes.Reads as inv_txfm_recon_f32_lanes
 use Rattle.pixels.proofs.inv_txfm_recon_f32_lanes8.Reads as inv_txfm_recon_f32_lanes8
+use Rattle.quick.proofs.inv_txfm_recon_f32_fast.Reads as inv_txfm_recon_f32_fast
 use Rattle.pixels.proofs.inv_txfm_recon_f32_rows.Reads as inv_txfm_recon_f32_rows
 use Rattle.pixels.proofs.inv_txfm_recon_f32_rows_lanes.Reads as inv_txfm_recon_f32_rows_lanes
 use Rattle.pixels.proofs.inv_txfm_recon_f32_rows_lanes8.Reads as inv_txfm_recon_f32_rows_lanes8
+use Rattle.quick.proofs.inv_txfm_recon_f32_rows_fast.Reads as inv_txfm_recon_f32_rows_fast
 use Rattle.pixels.proofs.inv_txfm_recon_f32_clamped.Reads as inv_txfm_recon_f32_clamped
 use Rattle.pixels.proofs.inv_txfm_recon_f32_clamped_lanes.Reads as inv_txfm_recon_f32_clamped_lanes
 use Rattle.pixels.proofs.inv_txfm_add.Reads as inv_txfm_add
 use Rattle.pixels.proofs.inv_txfm_add_lanes.Reads as inv_txfm_add_lanes
 use Rattle.pixels.proofs.inv_txfm_add_lanes8.Reads as inv_txfm_add_lanes8
+use Rattle.quick.proofs.inv_txfm_add_fast.Reads as inv_txfm_add_fast
 use Rattle.pixels.proofs.inv_txfm_add_rows.Reads as inv_txfm_add_rows
 use Rattle.pixels.proofs.inv_txfm_add_rows_lanes.Reads as inv_txfm_add_rows_lanes
 use Rattle.pixels.proofs.inv_txfm_add_rows_lanes8.Reads as inv_txfm_add_rows_lanes8
+use Rattle.quick.proofs.inv_txfm_add_rows_fast.Reads as inv_txfm_add_rows_fast
 use Rattle.pixels.proofs.inv_txfm_add_clamped.Reads as inv_txfm_add_clamped
 use Rattle.pixels.proofs.inv_txfm_add_clamped_lanes.Reads as inv_txfm_add_clamped_lanes
 use Rattle.chroma.proofs.cctx.Reads as cctx
@@ -57,8 +61,10 @@ use Rattle.lossless.proofs.lossless_step.Reads as lossless_step
 use Rattle.lossless.proofs.lossless_undo.Reads as lossless_undo
 use Rattle.byteplanes.proofs.inv_txfm_add_bytes.Reads as inv_txfm_add_bytes
 use Rattle.byteplanes.proofs.inv_txfm_add_bytes_lanes.Reads as inv_txfm_add_bytes_lanes
+use Rattle.quick_bytes.proofs.inv_txfm_add_bytes_fast.Reads as inv_txfm_add_bytes_fast
 use Rattle.byteplanes.proofs.inv_txfm_add_rows_bytes.Reads as inv_txfm_add_rows_bytes
 use Rattle.byteplanes.proofs.inv_txfm_add_rows_bytes_lanes.Reads as inv_txfm_add_rows_bytes_lanes
+use Rattle.quick_bytes.proofs.inv_txfm_add_rows_bytes_fast.Reads as inv_txfm_add_rows_bytes_fast
 use Rattle.bytesteps.proofs.lossless_step_bytes.Reads as lossless_step_bytes
 use Rattle.bytesteps.proofs.lossless_undo_bytes.Reads as lossless_undo_bytes
 use Rattle.history.proofs.history_step.Reads as history_step
@@ -72,17 +78,21 @@ use Rattle.av1_wht.proofs.av1_inv_wht4x4.Reads as av1_inv_wht4x4
 use Rattle.panel.proofs.panel_inv_txfm_recon_f32.Reads as panel_inv_txfm_recon_f32
 use Rattle.panel.proofs.panel_inv_txfm_recon_f32_lanes.Reads as panel_inv_txfm_recon_f32_lanes
 use Rattle.panel.proofs.panel_inv_txfm_recon_f32_lanes8.Reads as panel_inv_txfm_recon_f32_lanes8
+use Rattle.panel.proofs.panel_inv_txfm_recon_f32_fast.Reads as panel_inv_txfm_recon_f32_fast
 use Rattle.panel.proofs.panel_inv_txfm_recon_f32_rows.Reads as panel_inv_txfm_recon_f32_rows
 use Rattle.panel.proofs.panel_inv_txfm_recon_f32_rows_lanes.Reads as panel_inv_txfm_recon_f32_rows_lanes
 use Rattle.panel.proofs.panel_inv_txfm_recon_f32_rows_lanes8.Reads as panel_inv_txfm_recon_f32_rows_lanes8
+use Rattle.panel.proofs.panel_inv_txfm_recon_f32_rows_fast.Reads as panel_inv_txfm_recon_f32_rows_fast
 use Rattle.panel.proofs.panel_inv_txfm_recon_f32_clamped.Reads as panel_inv_txfm_recon_f32_clamped
 use Rattle.panel.proofs.panel_inv_txfm_recon_f32_clamped_lanes.Reads as panel_inv_txfm_recon_f32_clamped_lanes
 use Rattle.panel.proofs.panel_inv_txfm_add.Reads as panel_inv_txfm_add
 use Rattle.panel.proofs.panel_inv_txfm_add_lanes.Reads as panel_inv_txfm_add_lanes
 use Rattle.panel.proofs.panel_inv_txfm_add_lanes8.Reads as panel_inv_txfm_add_lanes8
+use Rattle.panel.proofs.panel_inv_txfm_add_fast.Reads as panel_inv_txfm_add_fast
 use Rattle.panel.proofs.panel_inv_txfm_add_rows.Reads as panel_inv_txfm_add_rows
 use Rattle.panel.proofs.panel_inv_txfm_add_rows_lanes.Reads as panel_inv_txfm_add_rows_lanes
 use Rattle.panel.proofs.panel_inv_txfm_add_rows_lanes8.Reads as panel_inv_txfm_add_rows_lanes8
+use Rattle.panel.proofs.panel_inv_txfm_add_rows_fast.Reads as panel_inv_txfm_add_rows_fast
 use Rattle.panel.proofs.panel_inv_txfm_add_clamped.Reads as panel_inv_txfm_add_clamped
 use Rattle.panel.proofs.panel_inv_txfm_add_clamped_lanes.Reads as panel_inv_txfm_add_clamped_lanes
 use Rattle.panel.proofs.panel_cctx.Reads as panel_cctx
@@ -93,11 +103,15 @@ use Rattle.panel.proofs.panel_lossless_undo.Reads as panel_lossless_undo
 use Rattle.panel.proofs.bytes.panel_inv_txfm_add_bytes.Reads as panel_inv_txfm_add_bytes
 use Rattle.panel_bytes.proofs.panel_inv_txfm_add_bytes.Reads as alone_inv_txfm_add_bytes
 use Rattle.panel.proofs.bytes.panel_inv_txfm_add_bytes_lanes.Reads as panel_inv_txfm_add_bytes_lanes
+use Rattle.panel.proofs.bytes.panel_inv_txfm_add_bytes_fast.Reads as panel_inv_txfm_add_bytes_fast
 use Rattle.panel_bytes.proofs.panel_inv_txfm_add_bytes_lanes.Reads as alone_inv_txfm_add_bytes_lanes
+use Rattle.panel_bytes.proofs.panel_inv_txfm_add_bytes_fast.Reads as alone_inv_txfm_add_bytes_fast
 use Rattle.panel.proofs.bytes.panel_inv_txfm_add_rows_bytes.Reads as panel_inv_txfm_add_rows_bytes
 use Rattle.panel_bytes.proofs.panel_inv_txfm_add_rows_bytes.Reads as alone_inv_txfm_add_rows_bytes
 use Rattle.panel.proofs.bytes.panel_inv_txfm_add_rows_bytes_lanes.Reads as panel_inv_txfm_add_rows_bytes_lanes
+use Rattle.panel.proofs.bytes.panel_inv_txfm_add_rows_bytes_fast.Reads as panel_inv_txfm_add_rows_bytes_fast
 use Rattle.panel_bytes.proofs.panel_inv_txfm_add_rows_bytes_lanes.Reads as alone_inv_txfm_add_rows_bytes_lanes
+use Rattle.panel_bytes.proofs.panel_inv_txfm_add_rows_bytes_fast.Reads as alone_inv_txfm_add_rows_bytes_fast
 use Rattle.panel.proofs.bytes.panel_lossless_step_bytes.Reads as panel_lossless_step_bytes
 use Rattle.panel_bytes.proofs.panel_lossless_step_bytes.Reads as alone_lossless_step_bytes
 use Rattle.panel.proofs.bytes.panel_lossless_undo_bytes.Reads as panel_lossless_undo_bytes
@@ -130,11 +144,17 @@ inv-txfm-recon-f32-lanes-promised = (λ κs a. tt, λ κs a x left p. p)
 pub inv-txfm-recon-f32-lanes8-promised : Promised 3 Recon.ps Recon.r inv_txfm_recon_f32_lanes8.Asked inv_txfm_recon_f32_lanes8.Learnt (filling strict)
 inv-txfm-recon-f32-lanes8-promised = (λ κs a. tt, λ κs a x left p. p)
 
+pub inv-txfm-recon-f32-fast-promised : Promised 3 Recon.ps Recon.r inv_txfm_recon_f32_fast.Asked inv_txfm_recon_f32_fast.Learnt (filling strict)
+inv-txfm-recon-f32-fast-promised = (λ κs a. tt, λ κs a x left p. p)
+
 pub panel-inv-txfm-recon-f32-lanes-promised : Promised 3 Recon.ps Recon.r panel_inv_txfm_recon_f32_lanes.Asked panel_inv_txfm_recon_f32_lanes.Learnt (filling strict)
 panel-inv-txfm-recon-f32-lanes-promised = (λ κs a. tt, λ κs a x left p. p)
 
 pub panel-inv-txfm-recon-f32-lanes8-promised : Promised 3 Recon.ps Recon.r panel_inv_txfm_recon_f32_lanes8.Asked panel_inv_txfm_recon_f32_lanes8.Learnt (filling strict)
 panel-inv-txfm-recon-f32-lanes8-promised = (λ κs a. tt, λ κs a x left p. p)
+
+pub panel-inv-txfm-recon-f32-fast-promised : Promised 3 Recon.ps Recon.r panel_inv_txfm_recon_f32_fast.Asked panel_inv_txfm_recon_f32_fast.Learnt (filling strict)
+panel-inv-txfm-recon-f32-fast-promised = (λ κs a. tt, λ κs a x left p. p)
 
 pub inv-txfm-recon-f32-rows-promised : Promised 3 Recon.ps Recon.r inv_txfm_recon_f32_rows.Asked inv_txfm_recon_f32_rows.Learnt (filling strictRows)
 inv-txfm-recon-f32-rows-promised = (λ κs a. tt, λ κs a x left p. p)
@@ -148,11 +168,17 @@ inv-txfm-recon-f32-rows-lanes-promised = (λ κs a. tt, λ κs a x left p. p)
 pub inv-txfm-recon-f32-rows-lanes8-promised : Promised 3 Recon.ps Recon.r inv_txfm_recon_f32_rows_lanes8.Asked inv_txfm_recon_f32_rows_lanes8.Learnt (filling strictRows)
 inv-txfm-recon-f32-rows-lanes8-promised = (λ κs a. tt, λ κs a x left p. p)
 
+pub inv-txfm-recon-f32-rows-fast-promised : Promised 3 Recon.ps Recon.r inv_txfm_recon_f32_rows_fast.Asked inv_txfm_recon_f32_rows_fast.Learnt (filling strictRows)
+inv-txfm-recon-f32-rows-fast-promised = (λ κs a. tt, λ κs a x left p. p)
+
 pub panel-inv-txfm-recon-f32-rows-lanes-promised : Promised 3 Recon.ps Recon.r panel_inv_txfm_recon_f32_rows_lanes.Asked panel_inv_txfm_recon_f32_rows_lanes.Learnt (filling strictRows)
 panel-inv-txfm-recon-f32-rows-lanes-promised = (λ κs a. tt, λ κs a x left p. p)
 
 pub panel-inv-txfm-recon-f32-rows-lanes8-promised : Promised 3 Recon.ps Recon.r panel_inv_txfm_recon_f32_rows_lanes8.Asked panel_inv_txfm_recon_f32_rows_lanes8.Learnt (filling strictRows)
 panel-inv-txfm-recon-f32-rows-lanes8-promised = (λ κs a. tt, λ κs a x left p. p)
+
+pub panel-inv-txfm-recon-f32-rows-fast-promised : Promised 3 Recon.ps Recon.r panel_inv_txfm_recon_f32_rows_fast.Asked panel_inv_txfm_recon_f32_rows_fast.Learnt (filling strictRows)
+panel-inv-txfm-recon-f32-rows-fast-promised = (λ κs a. tt, λ κs a x left p. p)
 
 pub inv-txfm-recon-f32-clamped-promised : Promised 3 Recon.ps Recon.r inv_txfm_recon_f32_clamped.Asked inv_txfm_recon_f32_clamped.Learnt (filling clamped)
 inv-txfm-recon-f32-clamped-promised = (λ κs a. tt, λ κs a x left p. p)
@@ -183,11 +209,17 @@ inv-txfm-add-lanes-promised = (λ κs a. tt, λ κs a x left p. p)
 pub inv-txfm-add-lanes8-promised : Promised 2 Add.ps Add.r inv_txfm_add_lanes8.Asked inv_txfm_add_lanes8.Learnt (adding strict)
 inv-txfm-add-lanes8-promised = (λ κs a. tt, λ κs a x left p. p)
 
+pub inv-txfm-add-fast-promised : Promised 2 Add.ps Add.r inv_txfm_add_fast.Asked inv_txfm_add_fast.Learnt (adding strict)
+inv-txfm-add-fast-promised = (λ κs a. tt, λ κs a x left p. p)
+
 pub panel-inv-txfm-add-lanes-promised : Promised 2 Add.ps Add.r panel_inv_txfm_add_lanes.Asked panel_inv_txfm_add_lanes.Learnt (adding strict)
 panel-inv-txfm-add-lanes-promised = (λ κs a. tt, λ κs a x left p. p)
 
 pub panel-inv-txfm-add-lanes8-promised : Promised 2 Add.ps Add.r panel_inv_txfm_add_lanes8.Asked panel_inv_txfm_add_lanes8.Learnt (adding strict)
 panel-inv-txfm-add-lanes8-promised = (λ κs a. tt, λ κs a x left p. p)
+
+pub panel-inv-txfm-add-fast-promised : Promised 2 Add.ps Add.r panel_inv_txfm_add_fast.Asked panel_inv_txfm_add_fast.Learnt (adding strict)
+panel-inv-txfm-add-fast-promised = (λ κs a. tt, λ κs a x left p. p)
 
 pub inv-txfm-add-rows-promised : Promised 2 Add.ps Add.r inv_txfm_add_rows.Asked inv_txfm_add_rows.Learnt (adding strictRows)
 inv-txfm-add-rows-promised = (λ κs a. tt, λ κs a x left p. p)
@@ -201,11 +233,17 @@ inv-txfm-add-rows-lanes-promised = (λ κs a. tt, λ κs a x left p. p)
 pub inv-txfm-add-rows-lanes8-promised : Promised 2 Add.ps Add.r inv_txfm_add_rows_lanes8.Asked inv_txfm_add_rows_lanes8.Learnt (adding strictRows)
 inv-txfm-add-rows-lanes8-promised = (λ κs a. tt, λ κs a x left p. p)
 
+pub inv-txfm-add-rows-fast-promised : Promised 2 Add.ps Add.r inv_txfm_add_rows_fast.Asked inv_txfm_add_rows_fast.Learnt (adding strictRows)
+inv-txfm-add-rows-fast-promised = (λ κs a. tt, λ κs a x left p. p)
+
 pub panel-inv-txfm-add-rows-lanes-promised : Promised 2 Add.ps Add.r panel_inv_txfm_add_rows_lanes.Asked panel_inv_txfm_add_rows_lanes.Learnt (adding strictRows)
 panel-inv-txfm-add-rows-lanes-promised = (λ κs a. tt, λ κs a x left p. p)
 
 pub panel-inv-txfm-add-rows-lanes8-promised : Promised 2 Add.ps Add.r panel_inv_txfm_add_rows_lanes8.Asked panel_inv_txfm_add_rows_lanes8.Learnt (adding strictRows)
 panel-inv-txfm-add-rows-lanes8-promised = (λ κs a. tt, λ κs a x left p. p)
+
+pub panel-inv-txfm-add-rows-fast-promised : Promised 2 Add.ps Add.r panel_inv_txfm_add_rows_fast.Asked panel_inv_txfm_add_rows_fast.Learnt (adding strictRows)
+panel-inv-txfm-add-rows-fast-promised = (λ κs a. tt, λ κs a x left p. p)
 
 pub inv-txfm-add-clamped-promised : Promised 2 Add.ps Add.r inv_txfm_add_clamped.Asked inv_txfm_add_clamped.Learnt (adding clamped)
 inv-txfm-add-clamped-promised = (λ κs a. tt, λ κs a x left p. p)
@@ -287,11 +325,20 @@ alone-inv-txfm-add-bytes-promised = (λ κs a. tt, λ κs a x left p. p)
 pub inv-txfm-add-bytes-lanes-promised : Promised 2 AddBytes.ps AddBytes.r inv_txfm_add_bytes_lanes.Asked inv_txfm_add_bytes_lanes.Learnt (addingBytes strict)
 inv-txfm-add-bytes-lanes-promised = (λ κs a. tt, λ κs a x left p. p)
 
+pub inv-txfm-add-bytes-fast-promised : Promised 2 AddBytes.ps AddBytes.r inv_txfm_add_bytes_fast.Asked inv_txfm_add_bytes_fast.Learnt (addingBytes strict)
+inv-txfm-add-bytes-fast-promised = (λ κs a. tt, λ κs a x left p. p)
+
 pub panel-inv-txfm-add-bytes-lanes-promised : Promised 2 AddBytes.ps AddBytes.r panel_inv_txfm_add_bytes_lanes.Asked panel_inv_txfm_add_bytes_lanes.Learnt (addingBytes strict)
 panel-inv-txfm-add-bytes-lanes-promised = (λ κs a. tt, λ κs a x left p. p)
 
+pub panel-inv-txfm-add-bytes-fast-promised : Promised 2 AddBytes.ps AddBytes.r panel_inv_txfm_add_bytes_fast.Asked panel_inv_txfm_add_bytes_fast.Learnt (addingBytes strict)
+panel-inv-txfm-add-bytes-fast-promised = (λ κs a. tt, λ κs a x left p. p)
+
 pub alone-inv-txfm-add-bytes-lanes-promised : Promised 2 AddBytes.ps AddBytes.r alone_inv_txfm_add_bytes_lanes.Asked alone_inv_txfm_add_bytes_lanes.Learnt (addingBytes strict)
 alone-inv-txfm-add-bytes-lanes-promised = (λ κs a. tt, λ κs a x left p. p)
+
+pub alone-inv-txfm-add-bytes-fast-promised : Promised 2 AddBytes.ps AddBytes.r alone_inv_txfm_add_bytes_fast.Asked alone_inv_txfm_add_bytes_fast.Learnt (addingBytes strict)
+alone-inv-txfm-add-bytes-fast-promised = (λ κs a. tt, λ κs a x left p. p)
 
 pub inv-txfm-add-rows-bytes-promised : Promised 2 AddBytes.ps AddBytes.r inv_txfm_add_rows_bytes.Asked inv_txfm_add_rows_bytes.Learnt (addingBytes strictRows)
 inv-txfm-add-rows-bytes-promised = (λ κs a. tt, λ κs a x left p. p)
@@ -305,11 +352,20 @@ alone-inv-txfm-add-rows-bytes-promised = (λ κs a. tt, λ κs a x left p. p)
 pub inv-txfm-add-rows-bytes-lanes-promised : Promised 2 AddBytes.ps AddBytes.r inv_txfm_add_rows_bytes_lanes.Asked inv_txfm_add_rows_bytes_lanes.Learnt (addingBytes strictRows)
 inv-txfm-add-rows-bytes-lanes-promised = (λ κs a. tt, λ κs a x left p. p)
 
+pub inv-txfm-add-rows-bytes-fast-promised : Promised 2 AddBytes.ps AddBytes.r inv_txfm_add_rows_bytes_fast.Asked inv_txfm_add_rows_bytes_fast.Learnt (addingBytes strictRows)
+inv-txfm-add-rows-bytes-fast-promised = (λ κs a. tt, λ κs a x left p. p)
+
 pub panel-inv-txfm-add-rows-bytes-lanes-promised : Promised 2 AddBytes.ps AddBytes.r panel_inv_txfm_add_rows_bytes_lanes.Asked panel_inv_txfm_add_rows_bytes_lanes.Learnt (addingBytes strictRows)
 panel-inv-txfm-add-rows-bytes-lanes-promised = (λ κs a. tt, λ κs a x left p. p)
 
+pub panel-inv-txfm-add-rows-bytes-fast-promised : Promised 2 AddBytes.ps AddBytes.r panel_inv_txfm_add_rows_bytes_fast.Asked panel_inv_txfm_add_rows_bytes_fast.Learnt (addingBytes strictRows)
+panel-inv-txfm-add-rows-bytes-fast-promised = (λ κs a. tt, λ κs a x left p. p)
+
 pub alone-inv-txfm-add-rows-bytes-lanes-promised : Promised 2 AddBytes.ps AddBytes.r alone_inv_txfm_add_rows_bytes_lanes.Asked alone_inv_txfm_add_rows_bytes_lanes.Learnt (addingBytes strictRows)
 alone-inv-txfm-add-rows-bytes-lanes-promised = (λ κs a. tt, λ κs a x left p. p)
+
+pub alone-inv-txfm-add-rows-bytes-fast-promised : Promised 2 AddBytes.ps AddBytes.r alone_inv_txfm_add_rows_bytes_fast.Asked alone_inv_txfm_add_rows_bytes_fast.Learnt (addingBytes strictRows)
+alone-inv-txfm-add-rows-bytes-fast-promised = (λ κs a. tt, λ κs a x left p. p)
 
 -- ---- planes of bytes, lossless steps: depth, plane, stride, width, row, column, levels
 abbrev steppingBytes : (List ℕ → Step → Answer × List ℕ) → Out 2 LosslessBytes.ps LosslessBytes.r

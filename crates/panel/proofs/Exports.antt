@@ -21,17 +21,21 @@ use Rattle.av1_wht.proofs.av1_inv_wht4x4.Kinds as Av1Wht
 use Rattle.pixels.proofs.inv_txfm_recon_f32.Reads as inv_txfm_recon_f32
 use Rattle.pixels.proofs.inv_txfm_recon_f32_lanes.Reads as inv_txfm_recon_f32_lanes
 use Rattle.pixels.proofs.inv_txfm_recon_f32_lanes8.Reads as inv_txfm_recon_f32_lanes8
+use Rattle.quick.proofs.inv_txfm_recon_f32_fast.Reads as inv_txfm_recon_f32_fast
 use Rattle.pixels.proofs.inv_txfm_recon_f32_rows.Reads as inv_txfm_recon_f32_rows
 use Rattle.pixels.proofs.inv_txfm_recon_f32_rows_lanes.Reads as inv_txfm_recon_f32_rows_lanes
 use Rattle.pixels.proofs.inv_txfm_recon_f32_rows_lanes8.Reads as inv_txfm_recon_f32_rows_lanes8
+use Rattle.quick.proofs.inv_txfm_recon_f32_rows_fast.Reads as inv_txfm_recon_f32_rows_fast
 use Rattle.pixels.proofs.inv_txfm_recon_f32_clamped.Reads as inv_txfm_recon_f32_clamped
 use Rattle.pixels.proofs.inv_txfm_recon_f32_clamped_lanes.Reads as inv_txfm_recon_f32_clamped_lanes
 use Rattle.pixels.proofs.inv_txfm_add.Reads as inv_txfm_add
 use Rattle.pixels.proofs.inv_txfm_add_lanes.Reads as inv_txfm_add_lanes
 use Rattle.pixels.proofs.inv_txfm_add_lanes8.Reads as inv_txfm_add_lanes8
+use Rattle.quick.proofs.inv_txfm_add_fast.Reads as inv_txfm_add_fast
 use Rattle.pixels.proofs.inv_txfm_add_rows.Reads as inv_txfm_add_rows
 use Rattle.pixels.proofs.inv_txfm_add_rows_lanes.Reads as inv_txfm_add_rows_lanes
 use Rattle.pixels.proofs.inv_txfm_add_rows_lanes8.Reads as inv_txfm_add_rows_lanes8
+use Rattle.quick.proofs.inv_txfm_add_rows_fast.Reads as inv_txfm_add_rows_fast
 use Rattle.pixels.proofs.inv_txfm_add_clamped.Reads as inv_txfm_add_clamped
 use Rattle.pixels.proofs.inv_txfm_add_clamped_lanes.Reads as inv_txfm_add_clamped_lanes
 use Rattle.chroma.proofs.cctx.Reads as cctx
@@ -50,17 +54,21 @@ use Rattle.av1_wht.proofs.av1_inv_wht4x4.Reads as av1_inv_wht4x4
 use Rattle.panel.proofs.panel_inv_txfm_recon_f32.Reads as panel_inv_txfm_recon_f32
 use Rattle.panel.proofs.panel_inv_txfm_recon_f32_lanes.Reads as panel_inv_txfm_recon_f32_lanes
 use Rattle.panel.proofs.panel_inv_txfm_recon_f32_lanes8.Reads as panel_inv_txfm_recon_f32_lanes8
+use Rattle.panel.proofs.panel_inv_txfm_recon_f32_fast.Reads as panel_inv_txfm_recon_f32_fast
 use Rattle.panel.proofs.panel_inv_txfm_recon_f32_rows.Reads as panel_inv_txfm_recon_f32_rows
 use Rattle.panel.proofs.panel_inv_txfm_recon_f32_rows_lanes.Reads as panel_inv_txfm_recon_f32_rows_lanes
 use Rattle.panel.proofs.panel_inv_txfm_recon_f32_rows_lanes8.Reads as panel_inv_txfm_recon_f32_rows_lanes8
+use Rattle.panel.proofs.panel_inv_txfm_recon_f32_rows_fast.Reads as panel_inv_txfm_recon_f32_rows_fast
 use Rattle.panel.proofs.panel_inv_txfm_recon_f32_clamped.Reads as panel_inv_txfm_recon_f32_clamped
 use Rattle.panel.proofs.panel_inv_txfm_recon_f32_clamped_lanes.Reads as panel_inv_txfm_recon_f32_clamped_lanes
 use Rattle.panel.proofs.panel_inv_txfm_add.Reads as panel_inv_txfm_add
 use Rattle.panel.proofs.panel_inv_txfm_add_lanes.Reads as panel_inv_txfm_add_lanes
 use Rattle.panel.proofs.panel_inv_txfm_add_lanes8.Reads as panel_inv_txfm_add_lanes8
+use Rattle.panel.proofs.panel_inv_txfm_add_fast.Reads as panel_inv_txfm_add_fast
 use Rattle.panel.proofs.panel_inv_txfm_add_rows.Reads as panel_inv_txfm_add_rows
 use Rattle.panel.proofs.panel_inv_txfm_add_rows_lanes.Reads as panel_inv_txfm_add_rows_lanes
 use Rattle.panel.proofs.panel_inv_txfm_add_rows_lanes8.Reads as panel_inv_txfm_add_rows_lanes8
+use Rattle.panel.proofs.panel_inv_txfm_add_rows_fast.Reads as panel_inv_txfm_add_rows_fast
 use Rattle.panel.proofs.panel_inv_txfm_add_clamped.Reads as panel_inv_txfm_add_clamped
 use Rattle.panel.proofs.panel_inv_txfm_add_clamped_lanes.Reads as panel_inv_txfm_add_clamped_lanes
 use Rattle.panel.proofs.panel_cctx.Reads as panel_cctx
@@ -92,6 +100,9 @@ inv-txfm-recon-f32-lanes-wrapped = (λ κs a. tt, λ κs a x left p. p)
 pub inv-txfm-recon-f32-lanes8-wrapped : Wraps 3 Recon.ps Recon.r panel_inv_txfm_recon_f32_lanes8.Asked panel_inv_txfm_recon_f32_lanes8.Learnt inv_txfm_recon_f32_lanes8.Learnt
 inv-txfm-recon-f32-lanes8-wrapped = (λ κs a. tt, λ κs a x left p. p)
 
+pub inv-txfm-recon-f32-fast-wrapped : Wraps 3 Recon.ps Recon.r panel_inv_txfm_recon_f32_fast.Asked panel_inv_txfm_recon_f32_fast.Learnt inv_txfm_recon_f32_fast.Learnt
+inv-txfm-recon-f32-fast-wrapped = (λ κs a. tt, λ κs a x left p. p)
+
 pub inv-txfm-recon-f32-rows-wrapped : Wraps 3 Recon.ps Recon.r panel_inv_txfm_recon_f32_rows.Asked panel_inv_txfm_recon_f32_rows.Learnt inv_txfm_recon_f32_rows.Learnt
 inv-txfm-recon-f32-rows-wrapped = (λ κs a. tt, λ κs a x left p. p)
 
@@ -100,6 +111,9 @@ inv-txfm-recon-f32-rows-lanes-wrapped = (λ κs a. tt, λ κs a x left p. p)
 
 pub inv-txfm-recon-f32-rows-lanes8-wrapped : Wraps 3 Recon.ps Recon.r panel_inv_txfm_recon_f32_rows_lanes8.Asked panel_inv_txfm_recon_f32_rows_lanes8.Learnt inv_txfm_recon_f32_rows_lanes8.Learnt
 inv-txfm-recon-f32-rows-lanes8-wrapped = (λ κs a. tt, λ κs a x left p. p)
+
+pub inv-txfm-recon-f32-rows-fast-wrapped : Wraps 3 Recon.ps Recon.r panel_inv_txfm_recon_f32_rows_fast.Asked panel_inv_txfm_recon_f32_rows_fast.Learnt inv_txfm_recon_f32_rows_fast.Learnt
+inv-txfm-recon-f32-rows-fast-wrapped = (λ κs a. tt, λ κs a x left p. p)
 
 pub inv-txfm-recon-f32-clamped-wrapped : Wraps 3 Recon.ps Recon.r panel_inv_txfm_recon_f32_clamped.Asked panel_inv_txfm_recon_f32_clamped.Learnt inv_txfm_recon_f32_clamped.Learnt
 inv-txfm-recon-f32-clamped-wrapped = (λ κs a. tt, λ κs a x left p. p)
@@ -116,6 +130,9 @@ inv-txfm-add-lanes-wrapped = (λ κs a. tt, λ κs a x left p. p)
 pub inv-txfm-add-lanes8-wrapped : Wraps 2 Add.ps Add.r panel_inv_txfm_add_lanes8.Asked panel_inv_txfm_add_lanes8.Learnt inv_txfm_add_lanes8.Learnt
 inv-txfm-add-lanes8-wrapped = (λ κs a. tt, λ κs a x left p. p)
 
+pub inv-txfm-add-fast-wrapped : Wraps 2 Add.ps Add.r panel_inv_txfm_add_fast.Asked panel_inv_txfm_add_fast.Learnt inv_txfm_add_fast.Learnt
+inv-txfm-add-fast-wrapped = (λ κs a. tt, λ κs a x left p. p)
+
 pub inv-txfm-add-rows-wrapped : Wraps 2 Add.ps Add.r panel_inv_txfm_add_rows.Asked panel_inv_txfm_add_rows.Learnt inv_txfm_add_rows.Learnt
 inv-txfm-add-rows-wrapped = (λ κs a. tt, λ κs a x left p. p)
 
@@ -124,6 +141,9 @@ inv-txfm-add-rows-lanes-wrapped = (λ κs a. tt, λ κs a x left p. p)
 
 pub inv-txfm-add-rows-lanes8-wrapped : Wraps 2 Add.ps Add.r panel_inv_txfm_add_rows_lanes8.Asked panel_inv_txfm_add_rows_lanes8.Learnt inv_txfm_add_rows_lanes8.Learnt
 inv-txfm-add-rows-lanes8-wrapped = (λ κs a. tt, λ κs a x left p. p)
+
+pub inv-txfm-add-rows-fast-wrapped : Wraps 2 Add.ps Add.r panel_inv_txfm_add_rows_fast.Asked panel_inv_txfm_add_rows_fast.Learnt inv_txfm_add_rows_fast.Learnt
+inv-txfm-add-rows-fast-wrapped = (λ κs a. tt, λ κs a x left p. p)
 
 pub inv-txfm-add-clamped-wrapped : Wraps 2 Add.ps Add.r panel_inv_txfm_add_clamped.Asked panel_inv_txfm_add_clamped.Learnt inv_txfm_add_clamped.Learnt
 inv-txfm-add-clamped-wrapped = (λ κs a. tt, λ κs a x left p. p)

@@ -64,6 +64,22 @@ pub extern "C" fn panel_inv_txfm_recon_f32_lanes8(
     pixels::inv_txfm_recon_f32_lanes8(out, coeff, txtp, tx, bd, pred)
 }
 
+// And the fast form.
+#[no_mangle]
+pub extern "C" fn panel_inv_txfm_recon_f32_fast(
+    out: &mut [f32],
+    coeff: &[i32],
+    txtp: usize,
+    tx: usize,
+    bd: u32,
+    pred: &[i32],
+) -> Answer
+    ensures { λ r. ⌜ (r, now (out .exit)) ≡ floatOf strict (now (out .entry)) (now (coeff .entry)) txtp tx bd (now (pred .entry)) ⌝ }
+    ensures { λ r. ⌜ (r .number ≡ 0 → Exact strict (now (out .exit)) (now (coeff .entry)) txtp tx bd (now (pred .entry))) ⌝ }
+{
+    quick::inv_txfm_recon_f32_fast(out, coeff, txtp, tx, bd, pred)
+}
+
 // The same, with coefficients in row order.
 #[no_mangle]
 pub extern "C" fn panel_inv_txfm_recon_f32_rows(
@@ -110,6 +126,22 @@ pub extern "C" fn panel_inv_txfm_recon_f32_rows_lanes8(
     ensures { λ r. ⌜ (r .number ≡ 0 → Exact strictRows (now (out .exit)) (now (coeff .entry)) txtp tx bd (now (pred .entry))) ⌝ }
 {
     pixels::inv_txfm_recon_f32_rows_lanes8(out, coeff, txtp, tx, bd, pred)
+}
+
+// And the fast form.
+#[no_mangle]
+pub extern "C" fn panel_inv_txfm_recon_f32_rows_fast(
+    out: &mut [f32],
+    coeff: &[i32],
+    txtp: usize,
+    tx: usize,
+    bd: u32,
+    pred: &[i32],
+) -> Answer
+    ensures { λ r. ⌜ (r, now (out .exit)) ≡ floatOf strictRows (now (out .entry)) (now (coeff .entry)) txtp tx bd (now (pred .entry)) ⌝ }
+    ensures { λ r. ⌜ (r .number ≡ 0 → Exact strictRows (now (out .exit)) (now (coeff .entry)) txtp tx bd (now (pred .entry))) ⌝ }
+{
+    quick::inv_txfm_recon_f32_rows_fast(out, coeff, txtp, tx, bd, pred)
 }
 
 // The same, with coefficients clamped in place of refused: as the source of the port has it.
@@ -189,6 +221,21 @@ pub extern "C" fn panel_inv_txfm_add_lanes8(
     pixels::inv_txfm_add_lanes8(dst, stride, coeff, txtp, tx, bd)
 }
 
+// And the fast form.
+#[no_mangle]
+pub extern "C" fn panel_inv_txfm_add_fast(
+    dst: &mut [i32],
+    stride: usize,
+    coeff: &[i32],
+    txtp: usize,
+    tx: usize,
+    bd: u32,
+) -> Answer
+    ensures { λ r. ⌜ (r, now (dst .exit)) ≡ addOf strict (now (dst .entry)) stride (now (coeff .entry)) txtp tx bd ⌝ }
+{
+    quick::inv_txfm_add_fast(dst, stride, coeff, txtp, tx, bd)
+}
+
 // The same, with coefficients in row order.
 #[no_mangle]
 pub extern "C" fn panel_inv_txfm_add_rows(
@@ -232,6 +279,21 @@ pub extern "C" fn panel_inv_txfm_add_rows_lanes8(
     ensures { λ r. ⌜ (r, now (dst .exit)) ≡ addOf strictRows (now (dst .entry)) stride (now (coeff .entry)) txtp tx bd ⌝ }
 {
     pixels::inv_txfm_add_rows_lanes8(dst, stride, coeff, txtp, tx, bd)
+}
+
+// And the fast form.
+#[no_mangle]
+pub extern "C" fn panel_inv_txfm_add_rows_fast(
+    dst: &mut [i32],
+    stride: usize,
+    coeff: &[i32],
+    txtp: usize,
+    tx: usize,
+    bd: u32,
+) -> Answer
+    ensures { λ r. ⌜ (r, now (dst .exit)) ≡ addOf strictRows (now (dst .entry)) stride (now (coeff .entry)) txtp tx bd ⌝ }
+{
+    quick::inv_txfm_add_rows_fast(dst, stride, coeff, txtp, tx, bd)
 }
 
 // The same, with coefficients clamped in place of refused: as the source of the port has it.

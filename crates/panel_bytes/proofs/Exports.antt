@@ -9,14 +9,18 @@ use Rattle.byteplanes.proofs.inv_txfm_add_bytes.Kinds as Add
 use Rattle.bytesteps.proofs.lossless_step_bytes.Kinds as Lossless
 use Rattle.byteplanes.proofs.inv_txfm_add_bytes.Reads as inv_txfm_add_bytes
 use Rattle.byteplanes.proofs.inv_txfm_add_bytes_lanes.Reads as inv_txfm_add_bytes_lanes
+use Rattle.quick_bytes.proofs.inv_txfm_add_bytes_fast.Reads as inv_txfm_add_bytes_fast
 use Rattle.byteplanes.proofs.inv_txfm_add_rows_bytes.Reads as inv_txfm_add_rows_bytes
 use Rattle.byteplanes.proofs.inv_txfm_add_rows_bytes_lanes.Reads as inv_txfm_add_rows_bytes_lanes
+use Rattle.quick_bytes.proofs.inv_txfm_add_rows_bytes_fast.Reads as inv_txfm_add_rows_bytes_fast
 use Rattle.bytesteps.proofs.lossless_step_bytes.Reads as lossless_step_bytes
 use Rattle.bytesteps.proofs.lossless_undo_bytes.Reads as lossless_undo_bytes
 use Rattle.panel_bytes.proofs.panel_inv_txfm_add_bytes.Reads as panel_inv_txfm_add_bytes
 use Rattle.panel_bytes.proofs.panel_inv_txfm_add_bytes_lanes.Reads as panel_inv_txfm_add_bytes_lanes
+use Rattle.panel_bytes.proofs.panel_inv_txfm_add_bytes_fast.Reads as panel_inv_txfm_add_bytes_fast
 use Rattle.panel_bytes.proofs.panel_inv_txfm_add_rows_bytes.Reads as panel_inv_txfm_add_rows_bytes
 use Rattle.panel_bytes.proofs.panel_inv_txfm_add_rows_bytes_lanes.Reads as panel_inv_txfm_add_rows_bytes_lanes
+use Rattle.panel_bytes.proofs.panel_inv_txfm_add_rows_bytes_fast.Reads as panel_inv_txfm_add_rows_bytes_fast
 use Rattle.panel_bytes.proofs.panel_lossless_step_bytes.Reads as panel_lossless_step_bytes
 use Rattle.panel_bytes.proofs.panel_lossless_undo_bytes.Reads as panel_lossless_undo_bytes
 
@@ -32,11 +36,17 @@ inv-txfm-add-bytes-wrapped = (λ κs a. tt, λ κs a x left p. p)
 pub inv-txfm-add-bytes-lanes-wrapped : Wraps 2 Add.ps Add.r panel_inv_txfm_add_bytes_lanes.Asked panel_inv_txfm_add_bytes_lanes.Learnt inv_txfm_add_bytes_lanes.Learnt
 inv-txfm-add-bytes-lanes-wrapped = (λ κs a. tt, λ κs a x left p. p)
 
+pub inv-txfm-add-bytes-fast-wrapped : Wraps 2 Add.ps Add.r panel_inv_txfm_add_bytes_fast.Asked panel_inv_txfm_add_bytes_fast.Learnt inv_txfm_add_bytes_fast.Learnt
+inv-txfm-add-bytes-fast-wrapped = (λ κs a. tt, λ κs a x left p. p)
+
 pub inv-txfm-add-rows-bytes-wrapped : Wraps 2 Add.ps Add.r panel_inv_txfm_add_rows_bytes.Asked panel_inv_txfm_add_rows_bytes.Learnt inv_txfm_add_rows_bytes.Learnt
 inv-txfm-add-rows-bytes-wrapped = (λ κs a. tt, λ κs a x left p. p)
 
 pub inv-txfm-add-rows-bytes-lanes-wrapped : Wraps 2 Add.ps Add.r panel_inv_txfm_add_rows_bytes_lanes.Asked panel_inv_txfm_add_rows_bytes_lanes.Learnt inv_txfm_add_rows_bytes_lanes.Learnt
 inv-txfm-add-rows-bytes-lanes-wrapped = (λ κs a. tt, λ κs a x left p. p)
+
+pub inv-txfm-add-rows-bytes-fast-wrapped : Wraps 2 Add.ps Add.r panel_inv_txfm_add_rows_bytes_fast.Asked panel_inv_txfm_add_rows_bytes_fast.Learnt inv_txfm_add_rows_bytes_fast.Learnt
+inv-txfm-add-rows-bytes-fast-wrapped = (λ κs a. tt, λ κs a x left p. p)
 
 pub lossless-step-bytes-wrapped : Wraps 2 Lossless.ps Lossless.r panel_lossless_step_bytes.Asked panel_lossless_step_bytes.Learnt lossless_step_bytes.Learnt
 lossless-step-bytes-wrapped = (λ κs a. tt, λ κs a x left p. p)

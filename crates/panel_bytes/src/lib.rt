@@ -39,6 +39,21 @@ pub extern "C" fn panel_inv_txfm_add_bytes_lanes(
     byteplanes::inv_txfm_add_bytes_lanes(dst, stride, coeff, txtp, tx, bd)
 }
 
+// And the fast form.
+#[no_mangle]
+pub extern "C" fn panel_inv_txfm_add_bytes_fast(
+    dst: &mut [u8],
+    stride: usize,
+    coeff: &[i32],
+    txtp: usize,
+    tx: usize,
+    bd: u32,
+) -> Answer
+    ensures { λ r. ⌜ (r, now (dst .exit)) ≡ bytesOf strict (now (dst .entry)) stride (now (coeff .entry)) txtp tx bd ⌝ }
+{
+    quick_bytes::inv_txfm_add_bytes_fast(dst, stride, coeff, txtp, tx, bd)
+}
+
 // The same, with coefficients in row order.
 #[no_mangle]
 pub extern "C" fn panel_inv_txfm_add_rows_bytes(
@@ -67,6 +82,21 @@ pub extern "C" fn panel_inv_txfm_add_rows_bytes_lanes(
     ensures { λ r. ⌜ (r, now (dst .exit)) ≡ bytesOf strictRows (now (dst .entry)) stride (now (coeff .entry)) txtp tx bd ⌝ }
 {
     byteplanes::inv_txfm_add_rows_bytes_lanes(dst, stride, coeff, txtp, tx, bd)
+}
+
+// And the fast form.
+#[no_mangle]
+pub extern "C" fn panel_inv_txfm_add_rows_bytes_fast(
+    dst: &mut [u8],
+    stride: usize,
+    coeff: &[i32],
+    txtp: usize,
+    tx: usize,
+    bd: u32,
+) -> Answer
+    ensures { λ r. ⌜ (r, now (dst .exit)) ≡ bytesOf strictRows (now (dst .entry)) stride (now (coeff .entry)) txtp tx bd ⌝ }
+{
+    quick_bytes::inv_txfm_add_rows_bytes_fast(dst, stride, coeff, txtp, tx, bd)
 }
 
 // A lossless step on a 4x4 block of a plane of bytes whose lines show width bytes. Depth 8.

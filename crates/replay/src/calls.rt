@@ -9,7 +9,7 @@ use stream::nums;
 // Whether there is a call of that number.
 pub fn known(call: u64) -> bool {
     match call {
-        1..=35 => true,
+        1..=41 => true,
         _ => false,
     }
 }
@@ -25,7 +25,7 @@ pub fn remembers(call: u64) -> bool {
 // Whether a call works on a plane of bytes.
 pub fn on_bytes(call: u64) -> bool {
     match call {
-        18..=23 => true,
+        18..=23 | 40 | 41 => true,
         _ => false,
     }
 }
@@ -34,7 +34,7 @@ pub fn on_bytes(call: u64) -> bool {
 pub fn slices(call: u64) -> usize {
     match call {
         34 | 35 => 1,
-        1 | 2 | 10 | 11 | 14 | 15 | 24 | 25 => 3,
+        1 | 2 | 10 | 11 | 14 | 15 | 24 | 25 | 36 | 37 => 3,
         _ => 2,
     }
 }
@@ -50,8 +50,8 @@ pub fn words(call: u64) -> usize
         29 | 32 | 33 => 3,
         30 | 31 => 4,
         28 => 6,
-        1 | 2 | 5 | 10 | 11 | 14 | 15 | 24 | 25 => 3,
-        3 | 4 | 12 | 13 | 16..=21 | 26 | 27 => 4,
+        1 | 2 | 5 | 10 | 11 | 14 | 15 | 24 | 25 | 36 | 37 => 3,
+        3 | 4 | 12 | 13 | 16..=21 | 26 | 27 | 38..=41 => 4,
         _ => 5,
     }
 }
@@ -89,6 +89,8 @@ fn recon(call: u64, words: [u64; 6], coeff: &[i32], pred: &[i32], out: &mut [f32
         11 => pixels::inv_txfm_recon_f32_rows_lanes(out, coeff, txtp, tx, depth, pred),
         24 => pixels::inv_txfm_recon_f32_lanes8(out, coeff, txtp, tx, depth, pred),
         25 => pixels::inv_txfm_recon_f32_rows_lanes8(out, coeff, txtp, tx, depth, pred),
+        36 => quick::inv_txfm_recon_f32_fast(out, coeff, txtp, tx, depth, pred),
+        37 => quick::inv_txfm_recon_f32_rows_fast(out, coeff, txtp, tx, depth, pred),
         14 => pixels::inv_txfm_recon_f32_clamped(out, coeff, txtp, tx, depth, pred),
         _ => pixels::inv_txfm_recon_f32_clamped_lanes(out, coeff, txtp, tx, depth, pred),
     }
@@ -107,6 +109,8 @@ fn add(call: u64, words: [u64; 6], coeff: &[i32], plane: &mut [i32]) -> Answer {
         13 => pixels::inv_txfm_add_rows_lanes(plane, stride, coeff, txtp, tx, depth),
         26 => pixels::inv_txfm_add_lanes8(plane, stride, coeff, txtp, tx, depth),
         27 => pixels::inv_txfm_add_rows_lanes8(plane, stride, coeff, txtp, tx, depth),
+        38 => quick::inv_txfm_add_fast(plane, stride, coeff, txtp, tx, depth),
+        39 => quick::inv_txfm_add_rows_fast(plane, stride, coeff, txtp, tx, depth),
         16 => pixels::inv_txfm_add_clamped(plane, stride, coeff, txtp, tx, depth),
         _ => pixels::inv_txfm_add_clamped_lanes(plane, stride, coeff, txtp, tx, depth),
     }
@@ -122,6 +126,8 @@ fn add_bytes(call: u64, words: [u64; 6], coeff: &[i32], plane: &mut [u8]) -> Ans
         18 => byteplanes::inv_txfm_add_bytes(plane, stride, coeff, txtp, tx, depth),
         19 => byteplanes::inv_txfm_add_bytes_lanes(plane, stride, coeff, txtp, tx, depth),
         20 => byteplanes::inv_txfm_add_rows_bytes(plane, stride, coeff, txtp, tx, depth),
+        40 => quick_bytes::inv_txfm_add_bytes_fast(plane, stride, coeff, txtp, tx, depth),
+        41 => quick_bytes::inv_txfm_add_rows_bytes_fast(plane, stride, coeff, txtp, tx, depth),
         _ => byteplanes::inv_txfm_add_rows_bytes_lanes(plane, stride, coeff, txtp, tx, depth),
     }
 }
@@ -180,7 +186,7 @@ pub fn run_list(call: u64, words: [u64; 6], list: &mut [i32]) -> Answer {
 // Runs a call of two slices.
 pub fn run(call: u64, words: [u64; 6], a: &mut [i32], b: &mut [i32]) -> Answer {
     match call {
-        3 | 4 | 12 | 13 | 16 | 17 | 26 | 27 => add(call, words, a, b),
+        3 | 4 | 12 | 13 | 16 | 17 | 26 | 27 | 38 | 39 => add(call, words, a, b),
         5 => chroma_pairs(words, a, b),
         6 => wht::fwht4x4(a, b),
         7 => wht::iwht4x4(a, b),

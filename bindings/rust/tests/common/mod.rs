@@ -104,4 +104,10 @@ pub const TABLE: &[Entry] = &[
     alone!(33, HistoryFold, history_fold),
     alone!(34, Av1Dct, av1_inv_dct),
     alone!(35, Av1Wht, av1_inv_wht4x4),
+    of!(36, Recon, inv_txfm_recon_f32_fast),
+    of!(37, Recon, inv_txfm_recon_f32_rows_fast),
+    of!(38, Add, inv_txfm_add_fast),
+    of!(39, Add, inv_txfm_add_rows_fast),
+    of!(40, AddBytes, inv_txfm_add_bytes_fast),
+    of!(41, AddBytes, inv_txfm_add_rows_bytes_fast),
 ];
