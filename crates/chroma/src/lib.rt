@@ -8,7 +8,7 @@ ghost use Rattle.chroma.specs.Chroma.{round256, turn_u, turn_v, turned, pair_ok,
 use answers::Answer;
 
 // A pair: one number of each list.
-#[derive(Drop)]
+#[derive(Clone, Copy)]
 struct Pair {
     u: i32,
     v: i32,

@@ -16,7 +16,7 @@ ghost use Rattle.tables.specs.Dense.{first_of, multiplied, dense_of};
 ghost use Rattle.lanes8.specs.View.{lane, cols, Live, Through};
 
 // Eight numbers side by side, one of each transform.
-#[derive(Drop)]
+#[derive(Clone, Copy)]
 pub struct Lane8(
     pub i32,
     pub i32,

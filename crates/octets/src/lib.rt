@@ -1,4 +1,6 @@
 // Bytes, and the numbers that they are. For the planes of bytes of document 02, section 4.
+#![tactic(auto)]
+
 ghost use Rattle.std.specs.Prelude.{◌≡◌, true, ◌≤◌, pos, nat_abs};
 ghost use Rattle.octets.specs.Octets.{is_byte};
 

@@ -3,7 +3,7 @@ ghost use Rattle.std.specs.Prelude.{◌≡◌, false, ℕ, ◌+◌, ◌*◌, ◌
 ghost use Rattle.passes.specs.Passes.{Dead, DeadLines, DeadFours};
 
 // The live part of a block: its first columns, and its first rows, which are a multiple of four.
-#[derive(Drop)]
+#[derive(Clone, Copy)]
 pub struct Part {
     pub across: usize,
     pub down: usize,

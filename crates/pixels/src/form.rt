@@ -1,5 +1,5 @@
 // In what the pixel calls differ, apart from their output. A form goes by value, last among the arguments.
-#[derive(Drop)]
+#[derive(Clone, Copy)]
 pub struct Form {
     pub lanes: usize, // How many lines go through a kernel together: 1, 4 or 8.
     pub rowwise: bool, // Whether the coefficients stand row after row; where not, column after column.

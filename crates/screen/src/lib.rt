@@ -10,7 +10,7 @@ pub mod plane;
 pub mod steps;
 
 // A screen; one of stride 0 is none.
-#[derive(Drop)]
+#[derive(Clone, Copy)]
 pub struct Screen {
     pub stride: usize, // The samples of a line: the visible ones, and the pad.
     pub width: usize,

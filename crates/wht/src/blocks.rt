@@ -4,11 +4,11 @@ ghost use Rattle.wht.specs.Wht.{fore, back, swap, each, turn, fore44, back44};
 ghost use Rattle.wht.specs.Bounds.{Sized, Sizes};
 
 // Four numbers.
-#[derive(Drop)]
+#[derive(Clone, Copy)]
 pub struct Quad(pub i32, pub i32, pub i32, pub i32);
 
 // Four rows.
-#[derive(Drop)]
+#[derive(Clone, Copy)]
 pub struct Block(pub Quad, pub Quad, pub Quad, pub Quad);
 
 // The forward transform of four numbers.

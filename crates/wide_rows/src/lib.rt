@@ -2,7 +2,7 @@
 pub mod rows; // Sums of products with the numbers of a table, row by row.
 
 // Two rows of sixteen numbers.
-#[derive(Drop)]
+#[derive(Clone, Copy)]
 pub struct Two {
     pub lo: [i32; 16],
     pub hi: [i32; 16],

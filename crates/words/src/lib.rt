@@ -6,7 +6,7 @@ pub use decimal::numbers;
 pub use text::{pass, same};
 
 // How many numbers were read, and whether every word was one.
-#[derive(Drop)]
+#[derive(Clone, Copy)]
 pub struct Found {
     pub count: usize,
     pub good: bool,

@@ -5,16 +5,12 @@ use lib.IntN.{nat_abs}
 use mir.Syntax.{w32}
 use mir.ValLaws.{to_z-of_z}
 use Rattle.octets.proofs.Lists.{byte-plain}
-use Rattle.octets.proofs.byte.Statement.{statement}
-use Rattle.octets.proofs.byte.Tie as tie
+use Rattle.octets.proofs.byte.Goals as goal
 
-cast-result : tie.Need-overflow-cast-result
-cast-result c =
+pub overflow_cast-result : goal.overflow_cast-result
+overflow_cast-result c =
     let p = byte-plain c.args.z c.requires in
     rw (to_z-of_z w32 c.args.z c.ranges.z) (p.0, record { fits = omega (arith, p.1) })
 
-returns : tie.Need-returns
+pub returns : goal.returns
 returns c = ap nat_abs (to_z-of_z w32 c.args.z c.ranges.z)
-
-pub byte-spec : {M : Type 1} → statement M
-byte-spec = tie.close (tie.spec cast-result returns)
