@@ -1,4 +1,6 @@
 // The inverse DCT of AV1 (document 02, section 12), as a call on a lent slice.
+#![tactic(auto)]
+
 ghost use Rattle.std.specs.Prelude.{◌≡◌, ◌≤◌, length};
 ghost use Rattle.whole.specs.Search.{seek};
 ghost use Rattle.av1.specs.Tables.{length_ok};

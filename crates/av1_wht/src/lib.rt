@@ -1,4 +1,6 @@
 // The inverse 4x4 WHT of AV1 (document 02, section 12), as a call on a lent slice.
+#![tactic(auto)]
+
 ghost use Rattle.std.specs.Prelude.{◌≡◌, ◌^◌, length};
 ghost use Rattle.whole.specs.Sums.{Within};
 ghost use Rattle.av1_wht.specs.Wht.{quarters, wht_verdict, wht_of};

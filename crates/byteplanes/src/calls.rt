@@ -27,6 +27,6 @@ pub fn add(
     let mut work = [0i32; 1024];
     pixels::calls::residuals(&mut work, coeff, txtp, tx, bd, form.lanes, form.rowwise);
     let s = tables::size::size_of(tx);
-    crate::rows::add_rows(dst, stride, &work, s.w, s.h);
+    crate::block_rows::add_rows(dst, stride, &work, s.w, s.h);
     a
 }

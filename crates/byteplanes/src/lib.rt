@@ -6,7 +6,7 @@ ghost use Rattle.pixels.specs.Calls.{strict, strict_rows};
 ghost use Rattle.byteplanes.specs.Bytes.{bytes_of};
 
 pub mod judge;
-pub mod rows; // Rows of bytes that gain their residuals.
+pub mod block_rows; // Rows of bytes that gain their residuals.
 pub mod calls;
 
 use answers::Answer;

@@ -1,4 +1,6 @@
 // The lossless step and its undo for the eight-bit panel of document 02, section 4: planes of bytes, depth 8.
+#![tactic(auto)]
+
 ghost use Rattle.std.specs.Prelude.{◌≡◌};
 ghost use Rattle.whole.specs.Sums.{item};
 ghost use Rattle.lossless.specs.Step.{attempt, gain_of};

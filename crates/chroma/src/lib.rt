@@ -1,4 +1,6 @@
 // The chroma call: the pairs of two lent lists, turned by an angle in their places.
+#![tactic(auto)]
+
 ghost use Rattle.std.specs.Prelude.{◌≡◌, ◌&&◌, ◌^◌, ◌≤◌, ◌<◌, nat_abs, length};
 ghost use Rattle.whole.specs.Numbers.{in_range};
 ghost use Rattle.whole.specs.Search.{seek};

@@ -27,7 +27,7 @@ pub fn ready(
     let sh = tables::size::cut_of(h);
     let scale = tables::size::is_scaled(w, h);
     let live = passes::live::live_part(coeff, sw, sh, rowwise);
-    crate::rows::rows(
+    crate::block_rows::rows(
         work,
         t,
         out,

@@ -102,6 +102,7 @@ alone-merged e f g ts m a = go (is_zero (summed f.levels e.levels))
     go false = past m a
 
 alone-keeps : {e g : Entry} {ts us : List Entry} → meets e g ≡ false → Alone g ts → Paired e ts us → Alone g us
+alone-keeps m none x = elim x [ ]
 alone-keeps {e} {g} m (other p q) (here {f} {ts} x y) = absurd (not-both p (meets-alike e f g m y))
 alone-keeps {e} {g} m (past p a) (here {f} {ts} x y) = alone-merged e f g ts (meets-alike e f g m y) a
 alone-keeps m (other p q) (past x y) = other p q
@@ -115,6 +116,7 @@ settled-merged e f ts a s = go (is_zero (summed f.levels e.levels))
     go false = next (alone-levels (fwht (summed f.levels e.levels)) a) s
 
 pub join-settled : {e : Entry} {ts us : List Entry} → Settled ts → Paired e ts us → Settled us
+join-settled empty x = elim x [ ]
 join-settled {e} (next a s) (here {f} {ts} x y) = settled-merged e f ts a s
 join-settled (next a s) (past x y) = next (alone-keeps x a y) (join-settled s y)
 

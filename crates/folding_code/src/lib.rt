@@ -1,4 +1,6 @@
 // Folding: pairs of remaining steps on one block become one step. Document 02, section 10.
+#![tactic(auto)]
+
 ghost use Rattle.std.specs.Prelude.{◌≡◌, length};
 ghost use Rattle.keeping.specs.Range.{area};
 ghost use Rattle.folding.specs.Fold.{three_of, fold_of};

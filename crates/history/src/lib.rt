@@ -1,6 +1,8 @@
 // A history of remaining lossless steps in lent memory, with a last-touch index: document 02, section 9.
 // steps: the count, then number, depth, row and column of each step; levels: sixteen of each; index: for each 4x4 grid cell of the visible area the
 // number of the latest remaining step that shares a sample with it. All zero is the empty history.
+#![tactic(auto)]
+
 ghost use Rattle.std.specs.Prelude.{◌≡◌, length};
 ghost use Rattle.keeping.specs.Range.{area};
 ghost use Rattle.history.specs.Calls.{lent, step_of, undo_verdict, undo_of, withdraw_verdict, withdraw_of, rebuild_of};

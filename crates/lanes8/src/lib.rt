@@ -1,5 +1,7 @@
 // Eight transforms side by side: the record of eight numbers, and a kernel for every length and kind on 32 records.
 // Written by tools/lanes8 from crates/lanes.
+#![tactic(auto)]
+
 pub mod live; // The live records: those that count.
 pub mod dot; // The sum of products in every lane.
 pub mod flat; // Records in a lent list, and the steps of their DCT: the even half grows in place.

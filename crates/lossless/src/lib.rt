@@ -1,5 +1,7 @@
 // The lossless step of document 01 and its undo: a 4x4 block of a plane gains the residuals of sixteen levels, with no clamp.
 // Document 02, section 2: the first width samples of each line are visible, and a block lies among those.
+#![tactic(auto)]
+
 ghost use Rattle.std.specs.Prelude.{◌≡◌, map, neg_ℤ, length};
 ghost use Rattle.whole.specs.Sums.{item};
 ghost use Rattle.wht.specs.Calls.{Sixteen};

@@ -20,7 +20,7 @@ fn fill(out: &mut [f32], pred: &[i32], e: [i32; 16], half: u32, shift: u32)
     let mut x = 0;
     while x < n {
         let z = narrow::gained(pred[x], e[x >> half], shift);
-        out[x] = pixels::rows::float(z);
+        out[x] = pixels::block_rows::float(z);
         x += 1;
     }
 }

@@ -1,4 +1,6 @@
 // What the kernels are made of: dense products by rows, in place, the butterfly, and the DCT of few inputs.
+#![tactic(auto)]
+
 pub mod sums; // Sums of products, and copies.
 pub mod short; // Sums of products of numbers that 16 bits hold.
 pub mod square; // The product of a table and as many numbers as it has rows, in place.

@@ -1,4 +1,6 @@
 // The 4x4 Walsh-Hadamard transform of document 01 and its inverse, as calls on lent slices of sixteen.
+#![tactic(auto)]
+
 ghost use Rattle.std.specs.Prelude.{◌≡◌, length};
 ghost use Rattle.whole.specs.Search.{seek};
 ghost use Rattle.wht.specs.Wht.{fwht, iwht};

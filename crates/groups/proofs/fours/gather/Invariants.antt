@@ -1,0 +1,14 @@
+use Prim.Native.Nat.{◌-◌}
+use lib.IntN.{pos}
+use lib.ListN.{get_or}
+use Rattle.whole.specs.Sums.{tab}
+use Rattle.whole.specs.Lanes.{spot}
+use Rattle.whole.proofs.Groups.{LaneFill}
+use Rattle.lanes.specs.View.{lane}
+use Rattle.groups.proofs.fours.gather.Given as goal
+
+abbrev pub invariant-loop-i : goal.invariant-loop-i
+invariant-loop-i l = LaneFill lane l.m (λ k x. get_or (tab 4 (λ j. get_or l.work (spot l.base l.p l.s j x) (pos 0))) k (pos 0)) l.ls l.i
+
+abbrev pub decreases-loop-i : goal.decreases-loop-i
+decreases-loop-i l = l.m - l.i

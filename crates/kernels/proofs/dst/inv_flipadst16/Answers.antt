@@ -1,0 +1,13 @@
+-- `kernels::dst::inv_flipadst16` meets its contract: one test of its table. Assumes nothing.
+use mathlib.Core.Bool.{false}
+use lib.Dec.{lit≤}
+use Rattle.tables.specs.Dense.{first_of}
+use Rattle.tables.specs.Dst.{flipadst16}
+use Rattle.kernels.proofs.ByRows.{dst-asks, dst-left}
+use Rattle.kernels.proofs.dst.inv_flipadst16.Goals as goal
+
+pub inv_dst-requires : goal.inv_dst-requires
+inv_dst-requires c = dst-asks 16 flipadst16 tt (first_of c.args.live c.args.c.now) c.requires.1 (lit≤ tt)
+
+pub returns : goal.returns
+returns c = dst-left false 16 flipadst16 (first_of c.args.live c.args.c.now) c.requires.1 c.inv_dst.ensures

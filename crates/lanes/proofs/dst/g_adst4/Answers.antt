@@ -1,0 +1,11 @@
+-- `lanes::dst::g_adst4` meets its contract: its table's rows have room. Assumes nothing.
+use mathlib.Core.Path.{refl}
+use native.Mathlib.Omega.{arith}
+use lib.Dec.{lit<}
+use Rattle.whole.proofs.Parts.{rows-light}
+use Rattle.tables.specs.Dst.{adst4}
+use Rattle.tables.proofs.Rules.{dst-sizes}
+use Rattle.lanes.proofs.dst.g_adst4.Goals as goal
+
+pub g_dst-requires : goal.g_dst-requires
+g_dst-requires c = record { mat_len = (refl, rows-light 4 adst4 dst-sizes.0 (lit< tt)); ready = (c.requires.0, omega (arith, c.requires.1)) }

@@ -1,0 +1,63 @@
+-- `passes::block::columns` meets its contract: eight columns at a time, four or one, the promise is the same. Assumes nothing.
+use mathlib.Core.Path.{◌≡◌, subst}
+use mathlib.Core.Bool.{true}
+use mathlib.Core.List.{List}
+use Prim.Native.Nat.{ℕ, ◌+◌, ◌*◌, ◌%◌, ◌^◌, ◌≤◌, ◌<◌}
+use native.Mathlib.Omega.{arith}
+use lib.Dec.{lit≤}
+use lib.IntN.{ℤ, pos, nat_abs}
+use lib.ListN.{length, get_or}
+use Rattle.whole.specs.Lanes.{Places}
+use Rattle.whole.specs.Grid.{grid_of, rows_by, cols_by, Same}
+use Rattle.tables.specs.Sizes.{cut}
+use Rattle.tables.specs.Kinds.{has_kind}
+use Rattle.tables.specs.Dense.{first_dense}
+use Rattle.tables.proofs.Kernels.{cut_most}
+use Rattle.passes.proofs.Places.{column-places, lines-places, lines-bound, lines-gained}
+use Rattle.passes.proofs.block.columns.Goals as goal
+use Rattle.passes.proofs.block.columns.Lts as lts
+use Rattle.passes.proofs.block.columns.Reads as reads
+use Rattle.passes.proofs.block.columns.Tie as tie
+
+abbrev Start : Type 0
+Start = lts.Start tie.the-claims reads.Pre reads.Post tie.handed_clauses
+
+placed : (w k x : ℕ) → k * 1 + x * w ≡ x * w + k
+placed w k x = omega arith
+
+module _ (s : Start) where
+  abbrev cell : ℕ → ℕ → ℕ
+  cell k x = x * s.args.sw + k
+
+  abbrev Asks : Type 0
+  Asks =
+      ((has_kind s.args.n s.args.code ≡ true) × (cut s.args.n ≡ s.args.sh) × (s.args.sw % 4 ≡ 0) × (s.args.sw ≤ 32) × (1 ≤ 32) × (s.args.live ≤ s.args.sh) × Places s.args.sw s.args.sh (λ k x. k * 1 + x * s.args.sw) (length s.args.work.now))
+      × ((k x : ℕ) → k < s.args.sw → x < s.args.live → nat_abs (get_or s.args.work.now (k * 1 + x * s.args.sw) (pos 0)) ≤ 2 ^ 19)
+
+  asks : Asks
+  asks = (
+    (s.requires.0, s.requires.1, s.requires.2, s.requires.3, lit≤ tt, s.requires.5, lines-places 1 s.args.sw cell (placed s.args.sw) (column-places s.args.sw s.args.sh (length s.args.work.now) s.requires.4)),
+    lines-bound 1 s.args.sw cell (placed s.args.sw) (2 ^ 19) s.args.work.now (λ k x a b. s.requires.6 x k b a),
+  )
+
+  gives : (u : List ℤ) → ((k x : ℕ) → k < s.args.sw → x < s.args.sh → get_or u (k * 1 + x * s.args.sw) (pos 0) ≡ rows_by (first_dense s.args.n s.args.code s.args.live) s.args.sh (λ k x. get_or s.args.work.now (k * 1 + x * s.args.sw) (pos 0)) k x)
+      → Same s.args.sw s.args.sh (grid_of s.args.sw u) (cols_by (first_dense s.args.n s.args.code s.args.live) s.args.sh (grid_of s.args.sw s.args.work.now))
+  gives u h r x a b = lines-gained 1 s.args.sw cell (placed s.args.sw) (first_dense s.args.n s.args.code s.args.live) s.args.sh s.args.work.now u x r (h x r b a)
+
+pub lane_pass-requires : goal.lane_pass-requires
+lane_pass-requires c = let q = asks c.before.before in record { code_value = q.0; by_index = q.1 }
+
+pub lane_pass-requires-then-lanes-eq4 : goal.lane_pass-requires-then-lanes-eq4
+lane_pass-requires-then-lanes-eq4 c = let q = asks c.before.before.before in record { code_value = q.0; by_index = q.1 }
+
+pub col_pass-requires : goal.col_pass-requires
+col_pass-requires c = (c.requires.0, c.requires.1, subst (λ (j : ℕ). j ≤ 32) c.requires.1 (cut_most c.args.n), c.requires.4, c.requires.5, c.requires.6)
+
+pub returns-then-lanes-eq8 : goal.returns-then-lanes-eq8
+returns-then-lanes-eq8 c = gives c.before.before.before.before c.lane_pass.new.work c.lane_pass.ensures
+
+pub returns-then-lanes-eq4 : goal.returns-then-lanes-eq4
+returns-then-lanes-eq4 c = gives c.before.before.before.before.before c.lane_pass-then-lanes-eq4.new.work c.lane_pass-then-lanes-eq4.ensures
+
+pub returns-else-lanes-eq4 : goal.returns-else-lanes-eq4
+returns-else-lanes-eq4 c = c.col_pass.ensures

@@ -1,0 +1,6 @@
+-- `remain::words::word` meets its contract: one read, which fits. Assumes nothing.
+use native.Mathlib.Omega.{arith}
+use Rattle.remain.proofs.words.word.Goals as goal
+
+pub overflow_cast-result : goal.overflow_cast-result
+overflow_cast-result c = omega (arith, c.shared_slice_known-1.given c.args.i)

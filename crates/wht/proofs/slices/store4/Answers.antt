@@ -1,0 +1,13 @@
+-- `wht::slices::store4` meets its contract: a store changes no length. Assumes nothing.
+use native.Mathlib.Omega.{arith}
+use lib.ListN.{length-set}
+use Rattle.wht.proofs.slices.store4.Goals as goal
+
+pub bounds-out-at-2 : goal.bounds-out-at-2
+bounds-out-at-2 c = simp length-set (omega arith)
+
+pub bounds-out-at-3 : goal.bounds-out-at-3
+bounds-out-at-3 c = simp length-set (omega arith)
+
+pub bounds-out-at-4 : goal.bounds-out-at-4
+bounds-out-at-4 c = simp length-set (omega arith)
