@@ -1,4 +1,7 @@
-// The calls under their C names, as include/panel.h declares them: each is the call that it wraps, with its promise.
+// The calls under their C names, as include/panel.h declares them: each is the call that it wraps, with its promise. Crate
+// `panel_c` exports them.
+#![tactic(auto)]
+
 pub mod bytes; // The calls on planes of bytes.
 
 ghost use Rattle.std.specs.Prelude.{◌≡◌, length};
@@ -17,8 +20,7 @@ ghost use Rattle.av1_wht.specs.Wht.{wht_of};
 use answers::Answer;
 
 // Prediction plus residual as f32, row after row.
-#[unsafe(no_mangle)]
-pub extern "C" fn panel_inv_txfm_recon_f32(
+pub fn panel_inv_txfm_recon_f32(
     out: &mut [f32],
     coeff: &[i32],
     txtp: usize,
@@ -33,8 +35,7 @@ pub extern "C" fn panel_inv_txfm_recon_f32(
 }
 
 // The same, four lanes at a time.
-#[unsafe(no_mangle)]
-pub extern "C" fn panel_inv_txfm_recon_f32_lanes(
+pub fn panel_inv_txfm_recon_f32_lanes(
     out: &mut [f32],
     coeff: &[i32],
     txtp: usize,
@@ -49,8 +50,7 @@ pub extern "C" fn panel_inv_txfm_recon_f32_lanes(
 }
 
 // And eight lanes at a time.
-#[unsafe(no_mangle)]
-pub extern "C" fn panel_inv_txfm_recon_f32_lanes8(
+pub fn panel_inv_txfm_recon_f32_lanes8(
     out: &mut [f32],
     coeff: &[i32],
     txtp: usize,
@@ -65,8 +65,7 @@ pub extern "C" fn panel_inv_txfm_recon_f32_lanes8(
 }
 
 // And the fast form.
-#[unsafe(no_mangle)]
-pub extern "C" fn panel_inv_txfm_recon_f32_fast(
+pub fn panel_inv_txfm_recon_f32_fast(
     out: &mut [f32],
     coeff: &[i32],
     txtp: usize,
@@ -81,8 +80,7 @@ pub extern "C" fn panel_inv_txfm_recon_f32_fast(
 }
 
 // The same, with coefficients in row order.
-#[unsafe(no_mangle)]
-pub extern "C" fn panel_inv_txfm_recon_f32_rows(
+pub fn panel_inv_txfm_recon_f32_rows(
     out: &mut [f32],
     coeff: &[i32],
     txtp: usize,
@@ -97,8 +95,7 @@ pub extern "C" fn panel_inv_txfm_recon_f32_rows(
 }
 
 // And four lanes at a time.
-#[unsafe(no_mangle)]
-pub extern "C" fn panel_inv_txfm_recon_f32_rows_lanes(
+pub fn panel_inv_txfm_recon_f32_rows_lanes(
     out: &mut [f32],
     coeff: &[i32],
     txtp: usize,
@@ -113,8 +110,7 @@ pub extern "C" fn panel_inv_txfm_recon_f32_rows_lanes(
 }
 
 // And eight lanes at a time.
-#[unsafe(no_mangle)]
-pub extern "C" fn panel_inv_txfm_recon_f32_rows_lanes8(
+pub fn panel_inv_txfm_recon_f32_rows_lanes8(
     out: &mut [f32],
     coeff: &[i32],
     txtp: usize,
@@ -129,8 +125,7 @@ pub extern "C" fn panel_inv_txfm_recon_f32_rows_lanes8(
 }
 
 // And the fast form.
-#[unsafe(no_mangle)]
-pub extern "C" fn panel_inv_txfm_recon_f32_rows_fast(
+pub fn panel_inv_txfm_recon_f32_rows_fast(
     out: &mut [f32],
     coeff: &[i32],
     txtp: usize,
@@ -145,8 +140,7 @@ pub extern "C" fn panel_inv_txfm_recon_f32_rows_fast(
 }
 
 // The same, with coefficients clamped in place of refused: as the source of the port has it.
-#[unsafe(no_mangle)]
-pub extern "C" fn panel_inv_txfm_recon_f32_clamped(
+pub fn panel_inv_txfm_recon_f32_clamped(
     out: &mut [f32],
     coeff: &[i32],
     txtp: usize,
@@ -161,8 +155,7 @@ pub extern "C" fn panel_inv_txfm_recon_f32_clamped(
 }
 
 // And four lanes at a time.
-#[unsafe(no_mangle)]
-pub extern "C" fn panel_inv_txfm_recon_f32_clamped_lanes(
+pub fn panel_inv_txfm_recon_f32_clamped_lanes(
     out: &mut [f32],
     coeff: &[i32],
     txtp: usize,
@@ -177,8 +170,7 @@ pub extern "C" fn panel_inv_txfm_recon_f32_clamped_lanes(
 }
 
 // The residual added into a picture at its stride.
-#[unsafe(no_mangle)]
-pub extern "C" fn panel_inv_txfm_add(
+pub fn panel_inv_txfm_add(
     dst: &mut [i32],
     stride: usize,
     coeff: &[i32],
@@ -192,8 +184,7 @@ pub extern "C" fn panel_inv_txfm_add(
 }
 
 // The same, four lanes at a time.
-#[unsafe(no_mangle)]
-pub extern "C" fn panel_inv_txfm_add_lanes(
+pub fn panel_inv_txfm_add_lanes(
     dst: &mut [i32],
     stride: usize,
     coeff: &[i32],
@@ -207,8 +198,7 @@ pub extern "C" fn panel_inv_txfm_add_lanes(
 }
 
 // And eight lanes at a time.
-#[unsafe(no_mangle)]
-pub extern "C" fn panel_inv_txfm_add_lanes8(
+pub fn panel_inv_txfm_add_lanes8(
     dst: &mut [i32],
     stride: usize,
     coeff: &[i32],
@@ -222,8 +212,7 @@ pub extern "C" fn panel_inv_txfm_add_lanes8(
 }
 
 // And the fast form.
-#[unsafe(no_mangle)]
-pub extern "C" fn panel_inv_txfm_add_fast(
+pub fn panel_inv_txfm_add_fast(
     dst: &mut [i32],
     stride: usize,
     coeff: &[i32],
@@ -237,8 +226,7 @@ pub extern "C" fn panel_inv_txfm_add_fast(
 }
 
 // The same, with coefficients in row order.
-#[unsafe(no_mangle)]
-pub extern "C" fn panel_inv_txfm_add_rows(
+pub fn panel_inv_txfm_add_rows(
     dst: &mut [i32],
     stride: usize,
     coeff: &[i32],
@@ -252,8 +240,7 @@ pub extern "C" fn panel_inv_txfm_add_rows(
 }
 
 // And four lanes at a time.
-#[unsafe(no_mangle)]
-pub extern "C" fn panel_inv_txfm_add_rows_lanes(
+pub fn panel_inv_txfm_add_rows_lanes(
     dst: &mut [i32],
     stride: usize,
     coeff: &[i32],
@@ -267,8 +254,7 @@ pub extern "C" fn panel_inv_txfm_add_rows_lanes(
 }
 
 // And eight lanes at a time.
-#[unsafe(no_mangle)]
-pub extern "C" fn panel_inv_txfm_add_rows_lanes8(
+pub fn panel_inv_txfm_add_rows_lanes8(
     dst: &mut [i32],
     stride: usize,
     coeff: &[i32],
@@ -282,8 +268,7 @@ pub extern "C" fn panel_inv_txfm_add_rows_lanes8(
 }
 
 // And the fast form.
-#[unsafe(no_mangle)]
-pub extern "C" fn panel_inv_txfm_add_rows_fast(
+pub fn panel_inv_txfm_add_rows_fast(
     dst: &mut [i32],
     stride: usize,
     coeff: &[i32],
@@ -297,8 +282,7 @@ pub extern "C" fn panel_inv_txfm_add_rows_fast(
 }
 
 // The same, with coefficients clamped in place of refused: as the source of the port has it.
-#[unsafe(no_mangle)]
-pub extern "C" fn panel_inv_txfm_add_clamped(
+pub fn panel_inv_txfm_add_clamped(
     dst: &mut [i32],
     stride: usize,
     coeff: &[i32],
@@ -312,8 +296,7 @@ pub extern "C" fn panel_inv_txfm_add_clamped(
 }
 
 // And four lanes at a time.
-#[unsafe(no_mangle)]
-pub extern "C" fn panel_inv_txfm_add_clamped_lanes(
+pub fn panel_inv_txfm_add_clamped_lanes(
     dst: &mut [i32],
     stride: usize,
     coeff: &[i32],
@@ -327,32 +310,28 @@ pub extern "C" fn panel_inv_txfm_add_clamped_lanes(
 }
 
 // Chroma pairs, turned in their places.
-#[unsafe(no_mangle)]
-pub extern "C" fn panel_cctx(u: &mut [i32], v: &mut [i32], sina: i32, cosa: i32, bd: u32) -> Answer
+pub fn panel_cctx(u: &mut [i32], v: &mut [i32], sina: i32, cosa: i32, bd: u32) -> Answer
     ensures { (result, (u.new, v.new)) ≡ cctx_of u.old v.old sina cosa bd }
 {
     chroma::cctx(u, v, sina, cosa, bd)
 }
 
 // The Walsh-Hadamard transform of sixteen numbers.
-#[unsafe(no_mangle)]
-pub extern "C" fn panel_fwht4x4(resid: &[i32], level: &mut [i32]) -> Answer
+pub fn panel_fwht4x4(resid: &[i32], level: &mut [i32]) -> Answer
     ensures { (result, level.new) ≡ fwht_of resid.now level.old }
 {
     wht::fwht4x4(resid, level)
 }
 
 // Its inverse.
-#[unsafe(no_mangle)]
-pub extern "C" fn panel_iwht4x4(level: &[i32], resid: &mut [i32]) -> Answer
+pub fn panel_iwht4x4(level: &[i32], resid: &mut [i32]) -> Answer
     ensures { (result, resid.new) ≡ iwht_of level.now resid.old }
 {
     wht::iwht4x4(level, resid)
 }
 
 // A lossless step on a 4x4 block of a plane whose lines show width samples.
-#[unsafe(no_mangle)]
-pub extern "C" fn panel_lossless_step(
+pub fn panel_lossless_step(
     depth: u32,
     plane: &mut [i32],
     stride: usize,
@@ -367,8 +346,7 @@ pub extern "C" fn panel_lossless_step(
 }
 
 // Its undo, with the same arguments.
-#[unsafe(no_mangle)]
-pub extern "C" fn panel_lossless_undo(
+pub fn panel_lossless_undo(
     depth: u32,
     plane: &mut [i32],
     stride: usize,
@@ -383,8 +361,7 @@ pub extern "C" fn panel_lossless_undo(
 }
 
 // A lossless step, remembered in lent memory.
-#[unsafe(no_mangle)]
-pub extern "C" fn panel_history_step(
+pub fn panel_history_step(
     depth: u32,
     plane: &mut [i32],
     stride: usize,
@@ -406,8 +383,7 @@ pub extern "C" fn panel_history_step(
 }
 
 // The newest remaining step, undone.
-#[unsafe(no_mangle)]
-pub extern "C" fn panel_history_undo(
+pub fn panel_history_undo(
     plane: &mut [i32],
     stride: usize,
     width: usize,
@@ -423,8 +399,7 @@ pub extern "C" fn panel_history_undo(
 }
 
 // The remaining step with a number, undone.
-#[unsafe(no_mangle)]
-pub extern "C" fn panel_history_withdraw(
+pub fn panel_history_withdraw(
     plane: &mut [i32],
     stride: usize,
     width: usize,
@@ -441,8 +416,7 @@ pub extern "C" fn panel_history_withdraw(
 }
 
 // What a withdrawal would answer.
-#[unsafe(no_mangle)]
-pub extern "C" fn panel_history_can_withdraw(
+pub fn panel_history_can_withdraw(
     plane: &[i32],
     stride: usize,
     width: usize,
@@ -458,8 +432,7 @@ pub extern "C" fn panel_history_can_withdraw(
 }
 
 // The whole index, from the list.
-#[unsafe(no_mangle)]
-pub extern "C" fn panel_history_rebuild(
+pub fn panel_history_rebuild(
     plane: &[i32],
     stride: usize,
     width: usize,
@@ -474,8 +447,7 @@ pub extern "C" fn panel_history_rebuild(
 }
 
 // Pairs of remaining steps on one block folded together, until none is left.
-#[unsafe(no_mangle)]
-pub extern "C" fn panel_history_fold(
+pub fn panel_history_fold(
     plane: &[i32],
     stride: usize,
     width: usize,
@@ -491,16 +463,14 @@ pub extern "C" fn panel_history_fold(
 }
 
 // The inverse DCT of AV1, in its place.
-#[unsafe(no_mangle)]
-pub extern "C" fn panel_av1_inv_dct(n: usize, bits: u32, t: &mut [i32]) -> Answer
+pub fn panel_av1_inv_dct(n: usize, bits: u32, t: &mut [i32]) -> Answer
     ensures { (result, t.new) ≡ dct_of n bits t.old }
 {
     av1::av1_inv_dct(n, bits, t)
 }
 
 // The inverse 4x4 WHT of AV1, in its place.
-#[unsafe(no_mangle)]
-pub extern "C" fn panel_av1_inv_wht4x4(bits: u32, t: &mut [i32]) -> Answer
+pub fn panel_av1_inv_wht4x4(bits: u32, t: &mut [i32]) -> Answer
     ensures { (result, t.new) ≡ wht_of bits t.old }
 {
     av1_wht::av1_inv_wht4x4(bits, t)

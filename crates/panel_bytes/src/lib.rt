@@ -1,6 +1,8 @@
 // The calls on planes of bytes under their C names, as include/panel.h declares them: each is the call that it wraps, with its promise.
 // This file stands twice, since an archive has the exports of its own crate only: alone in `panel_bytes`, the build for the eight-bit
-// panel of document 02, section 4, and in `panel` beside the others. The gate compares the two.
+// panel of document 02, section 4, and in `panel` beside the others. The gate compares the two. `panel_bytes_c` and `panel_c` export them.
+#![tactic(auto)]
+
 ghost use Rattle.std.specs.Prelude.{◌≡◌};
 ghost use Rattle.answers.specs.declared.Answer.{Answer};
 ghost use Rattle.pixels.specs.Calls.{strict, strict_rows};
@@ -11,8 +13,7 @@ ghost use Rattle.bytesteps.specs.Steps.{step_bytes, undo_bytes};
 use answers::Answer;
 
 // The residual added into a picture of bytes at its stride. Depth 8, no size with a side of 64.
-#[unsafe(no_mangle)]
-pub extern "C" fn panel_inv_txfm_add_bytes(
+pub fn panel_inv_txfm_add_bytes(
     dst: &mut [u8],
     stride: usize,
     coeff: &[i32],
@@ -26,8 +27,7 @@ pub extern "C" fn panel_inv_txfm_add_bytes(
 }
 
 // The same, four lanes at a time.
-#[unsafe(no_mangle)]
-pub extern "C" fn panel_inv_txfm_add_bytes_lanes(
+pub fn panel_inv_txfm_add_bytes_lanes(
     dst: &mut [u8],
     stride: usize,
     coeff: &[i32],
@@ -41,8 +41,7 @@ pub extern "C" fn panel_inv_txfm_add_bytes_lanes(
 }
 
 // And the fast form.
-#[unsafe(no_mangle)]
-pub extern "C" fn panel_inv_txfm_add_bytes_fast(
+pub fn panel_inv_txfm_add_bytes_fast(
     dst: &mut [u8],
     stride: usize,
     coeff: &[i32],
@@ -56,8 +55,7 @@ pub extern "C" fn panel_inv_txfm_add_bytes_fast(
 }
 
 // The same, with coefficients in row order.
-#[unsafe(no_mangle)]
-pub extern "C" fn panel_inv_txfm_add_rows_bytes(
+pub fn panel_inv_txfm_add_rows_bytes(
     dst: &mut [u8],
     stride: usize,
     coeff: &[i32],
@@ -71,8 +69,7 @@ pub extern "C" fn panel_inv_txfm_add_rows_bytes(
 }
 
 // And four lanes at a time.
-#[unsafe(no_mangle)]
-pub extern "C" fn panel_inv_txfm_add_rows_bytes_lanes(
+pub fn panel_inv_txfm_add_rows_bytes_lanes(
     dst: &mut [u8],
     stride: usize,
     coeff: &[i32],
@@ -86,8 +83,7 @@ pub extern "C" fn panel_inv_txfm_add_rows_bytes_lanes(
 }
 
 // And the fast form.
-#[unsafe(no_mangle)]
-pub extern "C" fn panel_inv_txfm_add_rows_bytes_fast(
+pub fn panel_inv_txfm_add_rows_bytes_fast(
     dst: &mut [u8],
     stride: usize,
     coeff: &[i32],
@@ -101,8 +97,7 @@ pub extern "C" fn panel_inv_txfm_add_rows_bytes_fast(
 }
 
 // A lossless step on a 4x4 block of a plane of bytes whose lines show width bytes. Depth 8.
-#[unsafe(no_mangle)]
-pub extern "C" fn panel_lossless_step_bytes(
+pub fn panel_lossless_step_bytes(
     depth: u32,
     plane: &mut [u8],
     stride: usize,
@@ -117,8 +112,7 @@ pub extern "C" fn panel_lossless_step_bytes(
 }
 
 // Its undo, with the same arguments.
-#[unsafe(no_mangle)]
-pub extern "C" fn panel_lossless_undo_bytes(
+pub fn panel_lossless_undo_bytes(
     depth: u32,
     plane: &mut [u8],
     stride: usize,

@@ -1,0 +1,2 @@
+-- Exports: each export is the function that it wraps.
+pub mod Exports
