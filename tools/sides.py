@@ -40,7 +40,7 @@ def build_oracle():
 
 
 def program(name):
-    """The command of a program under test: the variable of its name in capitals, or target/bin/ and its name by tools/run.
+    """The command of a program under test: the variable of its name in capitals, or the one in its crate's out/ by tools/run.
 
     Where it isn't there, this program ends and says what to build.
     """
@@ -49,8 +49,8 @@ def program(name):
         if not (shutil.which(command[0]) or (ROOT / command[0]).is_file()):
             raise SystemExit(f"{name.upper()} is {shlex.join(command)}, and there is no {command[0]}")
         return command
-    if not (ROOT / "target/bin" / name).is_file():
-        raise SystemExit(f"no target/bin/{name}: build it with rt check {name}")
+    if not (ROOT / "crates" / name / "out" / name).is_file():
+        raise SystemExit(f"no crates/{name}/out/{name}: build it with rt run in crates/{name}")
     return [str(ROOT / "tools/run"), name]
 
 
