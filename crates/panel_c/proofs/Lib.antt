@@ -1,4 +1,4 @@
 -- Exports: each export is the function that it wraps.
--- Bytes: each export is the function that it wraps.
+-- ByteExports: each export is the function that it wraps.
 pub mod Exports
-pub mod Bytes
+pub mod ByteExports
