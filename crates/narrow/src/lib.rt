@@ -1,4 +1,6 @@
 // Numbers of 16 bits between the passes, at depth 8: one number, and one row of them.
+#![tactic(auto)]
+
 ghost use Rattle.std.specs.Prelude.{◌≡◌, true, ℕ, ◌+◌, ◌*◌, ◌/◌, ◌^◌, ◌≤◌, ◌<◌, pos, nat_abs, ◌+ℤ◌, length, get_or};
 ghost use Rattle.whole.specs.Numbers.{clamp, lowest, highest, round_shift};
 ghost use Rattle.whole.specs.Sums.{tab, Within};

@@ -68,7 +68,7 @@ module _ {m n y o : ℤ} (a : Num m y (2 ^ 28)) (b : Num n o (2 ^ 26)) where
 
 -- a number that was read, or a call's result, with a bound
 pub has : {z : ℤ} (b : ℕ) → mag z < 2 ^ 31 → nat_abs z ≤ b → Num (word z) z b
-has b f h = given (record { sfits = f }) h
+has b f h = given {w = w32} (record { sfits = f }) h
 
 -- a call's result that is the number v
 pub got : {z v : ℤ} (b : ℕ) → mag z < 2 ^ 31 → z ≡ v → nat_abs z ≤ b → {k : ℕ} → b ≤ k → Num (word z) v k

@@ -1,4 +1,6 @@
 // Rows of sixteen numbers, one of each line, at 16 bits.
+#![tactic(auto)]
+
 pub mod rows; // Sums of products with the numbers of a table, row by row.
 
 // Two rows of sixteen numbers.

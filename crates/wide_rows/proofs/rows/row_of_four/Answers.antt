@@ -1,0 +1,56 @@
+-- `wide_rows::rows::row_of_four` meets its contract. Assumes nothing.
+use mathlib.Core.Path.{◌≡◌}
+use mathlib.Core.List.{[], ◌∷◌}
+use Prim.Native.Nat.{◌+◌, ◌*◌, ◌^◌, ◌≤◌}
+use native.Mathlib.Omega.{arith}
+use lib.IntN.{pos}
+use lib.ListN.{length, get_or}
+use Rattle.whole.specs.Sums.{Within}
+use Rattle.wide_rows.specs.Lines.{taps}
+use Rattle.wide_rows.proofs.Shorts.{byte_fits}
+use Rattle.wide_rows.proofs.Places.{wide, bytes4, small4, row_count, row_within, joined-row}
+use Rattle.wide_rows.proofs.rows.row_of_four.Goals as goal
+use Rattle.wide_rows.proofs.rows.row_of_four.Lts as lts
+use Rattle.wide_rows.proofs.rows.row_of_four.Reads as reads
+use Rattle.wide_rows.proofs.rows.row_of_four.Tie as tie
+
+abbrev After-k3-1 : Type 0
+After-k3-1 = lts.After-k3 tie.the-claims reads.Pre reads.Post
+
+abbrev Start : Type 0
+Start = lts.Start tie.the-claims reads.Pre reads.Post
+
+module _ (c : After-k3-1) where
+  same : (wide (get_or c.args.t.now (c.args.m * 4) (pos 0)) ∷ wide (get_or c.args.t.now (c.args.m * 4 + 1) (pos 0)) ∷ wide (get_or c.args.t.now (c.args.m * 4 + 1 + 1) (pos 0)) ∷ wide (get_or c.args.t.now (c.args.m * 4 + 1 + 1 + 1) (pos 0)) ∷ []) ≡ taps 4 (c.args.m * 4) 1 c.args.t.now
+  same = bytes4 (get_or c.args.t.now (c.args.m * 4) (pos 0)) (get_or c.args.t.now (c.args.m * 4 + 1) (pos 0)) (get_or c.args.t.now (c.args.m * 4 + 1 + 1) (pos 0)) (get_or c.args.t.now (c.args.m * 4 + 1 + 1 + 1) (pos 0)) c.k0-1.given c.k1-1.given c.k2-1.given c.k3-1.given
+
+  small : Within (2 ^ 7) (wide (get_or c.args.t.now (c.args.m * 4) (pos 0)) ∷ wide (get_or c.args.t.now (c.args.m * 4 + 1) (pos 0)) ∷ wide (get_or c.args.t.now (c.args.m * 4 + 1 + 1) (pos 0)) ∷ wide (get_or c.args.t.now (c.args.m * 4 + 1 + 1 + 1) (pos 0)) ∷ [])
+  small = small4 (get_or c.args.t.now (c.args.m * 4) (pos 0)) (get_or c.args.t.now (c.args.m * 4 + 1) (pos 0)) (get_or c.args.t.now (c.args.m * 4 + 1 + 1) (pos 0)) (get_or c.args.t.now (c.args.m * 4 + 1 + 1 + 1) (pos 0)) c.k0-1.given c.k1-1.given c.k2-1.given c.k3-1.given
+
+fits : (s : Start) → s.args.m * 16 + 16 ≤ length s.args.out.now
+fits s = omega arith
+
+pub overflow_cast-k0 : goal.overflow_cast-k0
+overflow_cast-k0 c = byte_fits (get_or c.args.t.now (c.args.m * 4) (pos 0)) c.k0-1.given
+
+pub overflow_cast-k1 : goal.overflow_cast-k1
+overflow_cast-k1 c = byte_fits (get_or c.args.t.now (c.args.m * 4 + 1) (pos 0)) c.k1-1.given
+
+pub overflow_cast-k2 : goal.overflow_cast-k2
+overflow_cast-k2 c = byte_fits (get_or c.args.t.now (c.args.m * 4 + 1 + 1) (pos 0)) c.k2-1.given
+
+pub overflow_cast-k3 : goal.overflow_cast-k3
+overflow_cast-k3 c = byte_fits (get_or c.args.t.now (c.args.m * 4 + 1 + 1 + 1) (pos 0)) c.k3-1.given
+
+pub four-q-requires : goal.four-q-requires
+four-q-requires c =
+    let f = fits c.before.before.before.before.before in
+    (row_count c.args.m c.args.out.now f, row_within c.args.m c.args.out.now f c.requires.small, omega arith, small c.before)
+
+pub put_two-requires : goal.put_two-requires
+put_two-requires c = (omega arith, omega arith)
+
+pub returns : goal.returns
+returns c =
+    let a = c.four-q in
+    joined-row c.args.m c.args.z c.args.b c.args.out.now _ c.args.w.now c.args.t.now a.result.lo a.result.hi (fits c.before.before.before.before.before.before.before.before.before) 4 _ (same c.before.before.before.before.before) a.ensures c.put_two.ensures

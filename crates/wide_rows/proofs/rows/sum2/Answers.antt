@@ -1,0 +1,54 @@
+-- `wide_rows::rows::sum2` meets its contract, by reflection of its sum of products. Assumes nothing.
+use mathlib.Core.Path.{sym, ◌∙◌, subst}
+use mathlib.Core.List.{List, [], ◌∷◌}
+use Prim.Native.Nat.{ℕ, ◌^◌, ◌≤◌}
+use lib.Dec.{T, lit<}
+use lib.IntN.{ℤ, nat_abs}
+use lib.ListN.{get_or}
+use mir.Syntax.{w32}
+use mir.Val.{SFits}
+use Rattle.whole.proofs.Machine.{Mx, var, ◌⊕◌, ◌⊗◌, raw, safe, size, exact, fits}
+use Rattle.wide_rows.proofs.Trees.{Fit, nil, cons, fit_at, tree2, dot2, taken2}
+use Rattle.wide_rows.proofs.rows.sum2.Goals as goal
+use Rattle.wide_rows.proofs.rows.sum2.Lts as lts
+use Rattle.wide_rows.proofs.rows.sum2.Reads as reads
+use Rattle.wide_rows.proofs.rows.sum2.Tie as tie
+
+abbrev After-at-x1 : Type 0
+After-at-x1 = lts.After-at2 tie.the-claims reads.Pre reads.Post
+
+abbrev p : ℕ → ℕ → Mx
+p i j = var i ⊗ var j
+
+abbrev all : Mx
+all = tree2 (p 0 2) (p 1 3)
+
+abbrev bs : List ℕ
+bs = 2 ^ 7 ∷ 2 ^ 7 ∷ 2 ^ 15 ∷ 2 ^ 15 ∷ []
+
+module _ (c : After-at-x1) where
+  abbrev xs : List ℤ
+  xs = c.args.k0 ∷ c.args.k1 ∷ c.at-x0.result ∷ c.at-x1.result ∷ []
+
+  small : Fit bs xs
+  small =
+      cons (c.requires.1 0 (lit< tt)) (cons (c.requires.1 1 (lit< tt)) (cons c.at-x0.ensures.1 (cons c.at-x1.ensures.1 nil)))
+
+  ok : (e : Mx) → T (safe w32 (λ i. get_or bs i 0) e) → SFits w32 (raw w32 e xs)
+  ok e t = fits (λ i. get_or bs i 0) xs (fit_at small) w32 e t
+
+pub overflow_mul-result : goal.overflow_mul-result
+overflow_mul-result c = ok c (p 0 2) tt
+
+pub overflow_mul-result-2 : goal.overflow_mul-result-2
+overflow_mul-result-2 c = ok c (p 1 3) tt
+
+pub overflow_add-result : goal.overflow_add-result
+overflow_add-result c = ok c ((p 0 2) ⊕ (p 1 3)) tt
+
+pub returns : goal.returns
+returns c =
+    let is = exact (λ i. get_or bs i 0) (xs c) (fit_at (small c)) w32 all tt in (
+      is ∙ dot2 c.args.k0 c.args.k1 c.at-x0.result c.at-x1.result ∙ taken2 c.args.k0 c.args.k1 c.at-x0.ensures.0 c.at-x1.ensures.0,
+      subst (λ (z : ℤ). nat_abs z ≤ 2 ^ 23) (sym is) (size (λ i. get_or bs i 0) (xs c) (fit_at (small c)) all),
+    )
