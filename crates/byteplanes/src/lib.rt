@@ -1,5 +1,7 @@
 // The add call for the eight-bit panel of document 02, section 4: planes of bytes, depth 8, no size with a side of 64.
 // Coefficients in column order, and in row order (`_rows`); one lane, and four (`_lanes`). A coefficient out of range is refused.
+#![tactic(auto)]
+
 ghost use Rattle.std.specs.Prelude.{◌≡◌};
 ghost use Rattle.answers.specs.declared.Answer.{Answer};
 ghost use Rattle.pixels.specs.Calls.{strict, strict_rows};

@@ -1,5 +1,7 @@
 // Runs the chroma call and writes what it leaves: a line of u and a line of v for each call.
 // The file stdout has the unchanged Rust's answers to the same calls; tools/record-chroma writes it.
+#![tactic(auto)]
+
 use lines::line;
 
 // P9 of document 01 in the first four, and the next half in the others.

@@ -3,6 +3,8 @@
 //     commands    the commands that change the screen
 //     look        those that only look at it
 //     script      lines into commands
+#![tactic(auto)]
+
 mod commands;
 mod look;
 mod script;

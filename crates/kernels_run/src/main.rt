@@ -1,6 +1,8 @@
 // Runs every kernel through `inv_tx1d`, length by length and code by code, on six lists at the ends of the range and between, all of
 // their numbers live, and on one of them with every smaller count of live numbers; writes what each leaves. The file stdout has what
 // the unchanged Rust leaves of the same lists, with zeros in the place of the numbers that are not live; tools/record-kernels writes it.
+#![tactic(auto)]
+
 ghost use Rattle.std.specs.Prelude.{◌≡◌, true, ℕ, ◌^◌, ◌≤◌, ◌<◌, nat_abs, length};
 ghost use Rattle.whole.specs.Sums.{Within};
 ghost use Rattle.tables.specs.Sizes.{cut};

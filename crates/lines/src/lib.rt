@@ -1,4 +1,6 @@
 // Lists of signed numbers on standard output, a line to a list: what the programs write.
+#![tactic(auto)]
+
 use libc::STDOUT_FILENO;
 
 // One number after a space, with its sign.

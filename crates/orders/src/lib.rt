@@ -1,4 +1,6 @@
 // A line of a script into a command that can be carried out (docs/GLASS.md). Every bad line is named here; what is left asks for nothing more.
+#![tactic(auto)]
+
 ghost use Rattle.std.specs.Prelude.{true, ◌≡◌, ◌≤◌, ◌<◌, length};
 ghost use Rattle.lossless.specs.Wanted.{Samples};
 ghost use Rattle.screen.specs.Planes.{argument};

@@ -1,5 +1,7 @@
 // What a command makes of the screen's memory: its plane, and the history of steps that can be taken back (document 02, sections 9 and 10).
 // plane: the samples; steps, levels, index: the history as `history` keeps it. All of it is lent at its exact length.
+#![tactic(auto)]
+
 ghost use Rattle.std.specs.Prelude.{true, List, ◌≡◌, ◌*◌, ◌≤◌, ◌<◌, ℤ, length, set};
 ghost use Rattle.answers.specs.Answers.{done};
 ghost use Rattle.whole.specs.Sums.{tab};

@@ -1,5 +1,7 @@
 // The fast form of the strict calls: the same promises as the other forms of `pixels`. A block at depth 8 of two DCTs goes through the narrow passes,
 // any other through the better of the other forms.
+#![tactic(auto)]
+
 ghost use Rattle.std.specs.Prelude.{◌≡◌};
 ghost use Rattle.answers.specs.declared.Answer.{Answer};
 ghost use Rattle.pixels.specs.Calls.{add_of, float_of, Exact, strict, strict_rows};

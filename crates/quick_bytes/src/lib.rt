@@ -1,5 +1,7 @@
 // The fast form of the strict calls on planes of bytes: the same promises as the other forms of `byteplanes`. A block of two DCTs goes through the narrow passes,
 // any other through the better of the other forms.
+#![tactic(auto)]
+
 ghost use Rattle.std.specs.Prelude.{◌≡◌};
 ghost use Rattle.answers.specs.declared.Answer.{Answer};
 ghost use Rattle.pixels.specs.Calls.{strict, strict_rows};

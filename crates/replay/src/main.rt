@@ -3,6 +3,8 @@
 //     calls     what each call is handed, and how each is run
 //     cases     one case: read, run and answered
 //     histories the same for the calls on a history, whose memory is trimmed in a stream
+#![tactic(auto)]
+
 mod calls;
 mod cases;
 mod histories;

@@ -1,6 +1,8 @@
 // A screen: its plane, blocks on it, and the levels of a change. What may be said of it stands in specs/.
 //     plane       the samples: a new plane, blocks, the first difference, the first mark that isn't as it was
 //     steps       the levels that lead to a wanted block
+#![tactic(auto)]
+
 ghost use Rattle.std.specs.Prelude.{◌≡◌, ◌+◌, ◌-◌, ◌^◌, ◌≤◌, pos, length};
 ghost use Rattle.screen.specs.Screens.{Sound, Blank, possible_of};
 

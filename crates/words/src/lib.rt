@@ -1,4 +1,6 @@
 // A line of text as words and decimal numbers. Words stand apart by blanks: spaces, tabs, carriage returns.
+#![tactic(auto)]
+
 mod decimal;
 mod text;
 

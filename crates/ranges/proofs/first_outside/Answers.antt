@@ -27,7 +27,6 @@ At-loop-x = lts.At-loop tie.the-claims reads.Pre reads.Post goal.the-invariant-l
 abbrev After-inside : Type 0
 After-inside = lts.After-inside tie.the-claims reads.Pre reads.Post goal.the-invariant-loop-x goal.the-decreases-loop-x goal.the-invariant-rows goal.the-decreases-rows tie.handed_clauses
 
-
 -- the test of a cell, by the parameters
 abbrev Ok : goal.Start → ℕ → Bool
 Ok s = cell_ok s.args.lo s.args.hi s.args.p.now s.args.start s.args.stride s.args.w
