@@ -1,0 +1,12 @@
+use Prim.Native.Nat.{◌-◌}
+use lib.IntN.{pos}
+use lib.ListN.{length}
+use Rattle.whole.proofs.Fill.{Filling}
+use Rattle.screen.specs.Planes.{fresh_of}
+use Rattle.screen.proofs.plane.blank.Given as goal
+
+abbrev pub invariant-loop-i : goal.invariant-loop-i
+invariant-loop-i l = Filling (pos 0) (length l.initial.list) (fresh_of l.stride l.width l.z) l.list l.i
+
+abbrev pub decreases-loop-i : goal.decreases-loop-i
+decreases-loop-i l = length l.initial.list - l.i
