@@ -3,6 +3,7 @@
 #![tactic(auto)]
 
 use lines::line;
+use std::io;
 
 // P9 of document 01 in the first four, and the next half in the others.
 const HALVES: [i32; 8] = [128, -128, 127, -127, 384, -384, 383, -383];
@@ -23,28 +24,35 @@ const U12: [i32; 8] = [524287, -524288, 524287, -524288, 0, 524287, 1, -1];
 const V12: [i32; 8] = [524287, 524287, -524288, -524288, -524288, 0, -1, 524287];
 
 // One call, and what it leaves.
-fn run(mut u: [i32; 8], mut v: [i32; 8], sina: i32, cosa: i32, bd: u32) {
+fn run(
+    rt: &impl Print,
+    mut u: [i32; 8],
+    mut v: [i32; 8],
+    sina: i32,
+    cosa: i32,
+    bd: u32,
+) -> io::Result<()> {
     chroma::cctx(&mut u, &mut v, sina, cosa, bd);
-    line(&u);
-    line(&v);
+    line(rt, &u)?;
+    line(rt, &v)
 }
 
 // The same pairs by eight angles.
-fn turns(u: [i32; 8], v: [i32; 8], bd: u32) {
-    run(u, v, 0, 256, bd);
-    run(u, v, 256, 0, bd);
-    run(u, v, 256, 256, bd);
-    run(u, v, -256, 256, bd);
-    run(u, v, -256, -256, bd);
-    run(u, v, 181, 181, bd);
-    run(u, v, -98, 237, bd);
-    run(u, v, 1, -1, bd);
+fn turns(rt: &impl Print, u: [i32; 8], v: [i32; 8], bd: u32) -> io::Result<()> {
+    run(rt, u, v, 0, 256, bd)?;
+    run(rt, u, v, 256, 0, bd)?;
+    run(rt, u, v, 256, 256, bd)?;
+    run(rt, u, v, -256, 256, bd)?;
+    run(rt, u, v, -256, -256, bd)?;
+    run(rt, u, v, 181, 181, bd)?;
+    run(rt, u, v, -98, 237, bd)?;
+    run(rt, u, v, 1, -1, bd)
 }
 
-fn main() {
-    run(HALVES, ZEROS, 0, 1, 8);
-    run(ZEROS, HALVES, 1, 0, 8);
-    turns(U8, V8, 8);
-    turns(U10, V10, 10);
-    turns(U12, V12, 12);
+fn main(rt: HostRuntime) -> io::Result<()> {
+    run(&rt, HALVES, ZEROS, 0, 1, 8)?;
+    run(&rt, ZEROS, HALVES, 1, 0, 8)?;
+    turns(&rt, U8, V8, 8)?;
+    turns(&rt, U10, V10, 10)?;
+    turns(&rt, U12, V12, 12)
 }

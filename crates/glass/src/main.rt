@@ -5,11 +5,13 @@
 //     script      lines into commands
 #![tactic(auto)]
 
+use std::io;
+
 mod commands;
 mod look;
 mod script;
 
-fn main() {
+fn main(rt: HostRuntime) -> io::Result<()> {
     let mut text = [0u8; 262144];
     let mut list = [0i32; 1028];
     let mut room = [0i32; 81920];
@@ -18,6 +20,8 @@ fn main() {
     let mut levels = [0i32; 65536];
     let mut index = [0u32; 4096];
     script::play(
+        &mut rt.stdin(),
+        &rt,
         &mut text,
         &mut list,
         &mut room,
@@ -25,5 +29,5 @@ fn main() {
         &mut steps,
         &mut levels,
         &mut index,
-    );
+    )
 }

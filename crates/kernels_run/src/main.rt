@@ -10,6 +10,7 @@ ghost use Rattle.tables.specs.Kinds.{has_kind};
 
 use kernels::tx1d::inv_tx1d;
 use lines::line;
+use std::io;
 use tables::size::cut_of;
 
 // Where number i of list p stands in the range, counted from its lower end: all at the top, all at the bottom, by turns, and mixed.
@@ -48,16 +49,23 @@ fn fill(c: &mut [i32], p: usize)
 }
 
 // What the kernel of length n and kind code leaves of the first live numbers of list p.
-fn run(c: &mut [i32], n: usize, code: usize, p: usize, live: usize)
+fn run(
+    rt: &impl Print,
+    c: &mut [i32],
+    n: usize,
+    code: usize,
+    p: usize,
+    live: usize,
+) -> io::Result<()>
     requires { (has_kind n code ≡ true) × (length c.old ≡ cut n) × (live ≤ cut n) }
 {
     fill(c, p);
     inv_tx1d(c, n, code, live);
-    line(c);
+    line(rt, c)
 }
 
 // All lists, all of their numbers live.
-fn lists(n: usize, code: usize)
+fn lists(rt: &impl Print, n: usize, code: usize) -> io::Result<()>
     requires { has_kind n code ≡ true }
 {
     let m = cut_of(n);
@@ -65,13 +73,14 @@ fn lists(n: usize, code: usize)
     let part = &mut c[..m];
     let mut p = 0;
     while p < 6 {
-        run(part, n, code, p, m);
+        run(rt, part, n, code, p, m)?;
         p += 1;
     }
+    Ok(())
 }
 
 // The last list, with every smaller count of live numbers.
-fn counts(n: usize, code: usize)
+fn counts(rt: &impl Print, n: usize, code: usize) -> io::Result<()>
     requires { has_kind n code ≡ true }
 {
     let m = cut_of(n);
@@ -79,27 +88,29 @@ fn counts(n: usize, code: usize)
     let part = &mut c[..m];
     let mut live = 0;
     while live < m {
-        run(part, n, code, 5, live);
+        run(rt, part, n, code, 5, live)?;
         live += 1;
     }
+    Ok(())
 }
 
 // All kinds of length n, of which there are count.
-fn kinds(n: usize, count: usize)
+fn kinds(rt: &impl Print, n: usize, count: usize) -> io::Result<()>
     requires { (k : ℕ) → k < count → has_kind n k ≡ true }
 {
     let mut code = 0;
     while code < count {
-        lists(n, code);
-        counts(n, code);
+        lists(rt, n, code)?;
+        counts(rt, n, code)?;
         code += 1;
     }
+    Ok(())
 }
 
-fn main() {
-    kinds(4, 4);
-    kinds(8, 6);
-    kinds(16, 6);
-    kinds(32, 2);
-    kinds(64, 1);
+fn main(rt: HostRuntime) -> io::Result<()> {
+    kinds(&rt, 4, 4)?;
+    kinds(&rt, 8, 6)?;
+    kinds(&rt, 16, 6)?;
+    kinds(&rt, 32, 2)?;
+    kinds(&rt, 64, 1)
 }

@@ -1,7 +1,7 @@
 // A line of a script into a command that can be carried out (docs/GLASS.md). Every bad line is named here; what is left asks for nothing more.
 #![tactic(auto)]
 
-ghost use Rattle.std.specs.Prelude.{true, ◌≡◌, ◌≤◌, ◌<◌, length};
+ghost use Rattle.std.specs.Prelude.{true, ◌≡◌, ◌≤◌, ◌<◌, length, IfOk};
 ghost use Rattle.lossless.specs.Wanted.{Samples};
 ghost use Rattle.screen.specs.Planes.{argument};
 ghost use Rattle.screen.specs.Screens.{possible_of};
@@ -10,28 +10,30 @@ ghost use Rattle.orders.specs.Orders.{Ordered};
 use events::say;
 use screen::Screen;
 use screen::plane::natural;
+use std::io;
 
 // The commands by their numbers, and how many numbers each takes.
 pub mod names;
 
 // A screen that can be.
-fn fits_screen(number: usize, list: &[i32]) -> bool
+fn fits_screen(rt: &impl Print, number: usize, list: &[i32]) -> io::Result<bool>
     requires { 1028 ≤ length list.now }
-    ensures { result ≡ true → (possible_of (argument list.now 0) (argument list.now 1) (argument list.now 2) ≡ true) × (argument list.now 3 ≤ 64) }
+    ensures { IfOk result
+        (λ ok. ok ≡ true → (possible_of (argument list.now 0) (argument list.now 1) (argument list.now 2) ≡ true) × (argument list.now 3 ≤ 64)) }
 {
     let width = natural(list[0]);
     let height = natural(list[1]);
     let depth = natural(list[2]);
     let pad = natural(list[3]);
     if !screen::possible(width, height, depth) {
-        say::error(number, b"sides are 4 to 256, depth 8 to 12");
-        return false;
+        say::error(rt, number, b"sides are 4 to 256, depth 8 to 12")?;
+        return Ok(false);
     }
     if 64 < pad {
-        say::error(number, b"a pad is 0 to 64");
-        return false;
+        say::error(rt, number, b"a pad is 0 to 64")?;
+        return Ok(false);
     }
-    true
+    Ok(true)
 }
 
 // How many coefficients a block has; as many as any, where there is no such size.
@@ -46,145 +48,162 @@ fn coefficients(tx: usize) -> usize
 }
 
 // A block with no more coefficients than its size has.
-fn fits_block(number: usize, tx: usize, count: usize) -> bool {
+fn fits_block(rt: &impl Print, number: usize, tx: usize, count: usize) -> io::Result<bool> {
     let most = coefficients(tx);
     if most + 4 < count {
-        say::error_of(number, b"the block has ", most, b" coefficients");
-        return false;
+        say::error_of(rt, number, b"the block has ", most, b" coefficients")?;
+        return Ok(false);
     }
-    true
+    Ok(true)
 }
 
 // A change whose wanted samples are in range.
-fn fits_change(number: usize, depth: u32, wanted: &[i32]) -> bool
+fn fits_change(rt: &impl Print, number: usize, depth: u32, wanted: &[i32]) -> io::Result<bool>
     requires { (depth ≤ 12) × (length wanted.now ≡ 16) }
-    ensures { result ≡ true → Samples depth wanted.now }
+    ensures { IfOk result (λ ok. ok ≡ true → Samples depth wanted.now) }
 {
     let hi = ranges::high_end(depth);
     let bad = wht::first_bad(wanted, 0, hi);
     if bad < 16 {
-        say::error_sample(number, bad + 3, natural(hi));
-        return false;
+        say::error_sample(rt, number, bad + 3, natural(hi))?;
+        return Ok(false);
     }
-    true
+    Ok(true)
 }
 
 // An undo of no more steps than remain.
-fn fits_undo(number: usize, n: usize, remaining: usize) -> bool
-    ensures { result ≡ true → n ≤ remaining }
+fn fits_undo(rt: &impl Print, number: usize, n: usize, remaining: usize) -> io::Result<bool>
+    ensures { IfOk result (λ ok. ok ≡ true → n ≤ remaining) }
 {
     if remaining < n {
-        say::error_of(number, b"no more than ", remaining, b" steps");
-        return false;
+        say::error_of(rt, number, b"no more than ", remaining, b" steps")?;
+        return Ok(false);
     }
-    true
+    Ok(true)
 }
 
 // A comparison with something kept.
-fn fits_compare(number: usize, kept: bool) -> bool {
+fn fits_compare(rt: &impl Print, number: usize, kept: bool) -> io::Result<bool> {
     if !kept {
-        say::error(number, b"nothing kept");
-        return false;
+        say::error(rt, number, b"nothing kept")?;
+        return Ok(false);
     }
-    true
+    Ok(true)
 }
 
 // A sample of the screen.
-fn fits_who(number: usize, width: usize, height: usize, row: usize, column: usize) -> bool
-    ensures { result ≡ true → (row < height) × (column < width) }
+fn fits_who(
+    rt: &impl Print,
+    number: usize,
+    width: usize,
+    height: usize,
+    row: usize,
+    column: usize,
+) -> io::Result<bool>
+    ensures { IfOk result (λ ok. ok ≡ true → (row < height) × (column < width)) }
 {
     if height <= row {
-        say::error(number, b"no such row");
-        return false;
+        say::error(rt, number, b"no such row")?;
+        return Ok(false);
     }
     if width <= column {
-        say::error(number, b"no such column");
-        return false;
+        say::error(rt, number, b"no such column")?;
+        return Ok(false);
     }
-    true
+    Ok(true)
 }
 
 // A command that can be carried out on a screen that is there.
 fn fits_on_screen(
+    rt: &impl Print,
     number: usize,
     command: u32,
     s: Screen,
     remaining: usize,
     list: &[i32],
     count: usize,
-) -> bool
+) -> io::Result<bool>
     requires { (1028 ≤ length list.now) × (s.depth ≤ 12) × (0 < s.stride) × (1 < command) }
-    ensures { result ≡ true → Ordered command s remaining list.now }
+    ensures { IfOk result (λ ok. ok ≡ true → Ordered command s remaining list.now) }
 {
     match command {
-        2 => fits_block(number, natural(list[2]), count),
-        3 => fits_change(number, s.depth, &list[2..18]),
-        6 => fits_undo(number, natural(list[0]), remaining),
-        9 => fits_compare(number, s.kept),
+        2 => fits_block(rt, number, natural(list[2]), count),
+        3 => fits_change(rt, number, s.depth, &list[2..18]),
+        6 => fits_undo(rt, number, natural(list[0]), remaining),
+        9 => fits_compare(rt, number, s.kept),
         12 => fits_who(
+            rt,
             number,
             s.width,
             s.height,
             natural(list[0]),
             natural(list[1]),
         ),
-        _ => true,
+        _ => Ok(true),
     }
 }
 
 // A command that can be carried out.
 fn fits(
+    rt: &impl Print,
     number: usize,
     command: u32,
     s: Screen,
     remaining: usize,
     list: &[i32],
     count: usize,
-) -> bool
+) -> io::Result<bool>
     requires { (1028 ≤ length list.now) × (s.depth ≤ 12) × (0 < command) }
-    ensures { result ≡ true → Ordered command s remaining list.now }
+    ensures { IfOk result (λ ok. ok ≡ true → Ordered command s remaining list.now) }
 {
     if command == 1 {
-        return fits_screen(number, list);
+        return fits_screen(rt, number, list);
     }
     if s.stride == 0 {
-        say::error(number, b"no screen yet");
-        return false;
+        say::error(rt, number, b"no screen yet")?;
+        return Ok(false);
     }
-    fits_on_screen(number, command, s, remaining, list, count)
+    fits_on_screen(rt, number, command, s, remaining, list, count)
 }
 
 // Whether a command has as many numbers as it takes, and none negative that may not be.
-fn takes(number: usize, command: u32, name: &[u8], list: &[i32], count: usize) -> bool
+fn takes(
+    rt: &impl Print,
+    number: usize,
+    command: u32,
+    name: &[u8],
+    list: &[i32],
+    count: usize,
+) -> io::Result<bool>
     requires { 1028 ≤ length list.now }
 {
     let form = names::form(command);
     if !names::takes(form, count) {
-        names::usage(number, name, form);
-        return false;
+        names::usage(rt, number, name, form)?;
+        return Ok(false);
     }
     let n = names::heads(form, count);
     let bad = ranges::first_outside(list, 0, 0, n, 1, 0, 2147483647);
     if bad < n {
-        say::error_at(number, bad + 1, b" is negative");
-        return false;
+        say::error_at(rt, number, bad + 1, b" is negative")?;
+        return Ok(false);
     }
-    true
+    Ok(true)
 }
 
 // A line of which only some words are numbers, or too many.
-fn bad_number(number: usize, count: usize, most: usize)
+fn bad_number(rt: &impl Print, number: usize, count: usize, most: usize) -> io::Result<()>
     requires { count ≤ most }
 {
     if count == most {
-        say::error_of(number, b"more than ", most, b" numbers");
-        return;
+        return say::error_of(rt, number, b"more than ", most, b" numbers");
     }
     say::error_at(
+        rt,
         number,
         count + 1,
         b" is no whole number from -2147483647 to 2147483647",
-    );
+    )
 }
 
 // What stands for the numbers that a line doesn't give: an undo takes back one step.
@@ -197,49 +216,57 @@ fn unsaid(command: u32) -> i32 {
 
 // A line that has a word, from a place on.
 fn worded(
+    rt: &impl Print,
     number: usize,
     line: &[u8],
     from: usize,
     s: Screen,
     remaining: usize,
     list: &mut [i32],
-) -> u32
+) -> io::Result<u32>
     requires { (from ≤ length line.now) × (1028 ≤ length list.old) × (s.depth ≤ 12) }
-    ensures { Ordered result s remaining list.new }
+    ensures { IfOk result (λ command. Ordered command s remaining list.new) }
 {
     let to = words::pass(line, from, false);
     let c = names::command(line, from, to);
     if c == 0 {
-        say::error(number, b"no such command");
-        return 0;
+        say::error(rt, number, b"no such command")?;
+        return Ok(0);
     }
     let found = words::numbers(line, to, list);
     if !found.good {
-        bad_number(number, found.count, list.len());
-        return 0;
+        bad_number(rt, number, found.count, list.len())?;
+        return Ok(0);
     }
     let count = found.count;
     screen::plane::fill(&mut list[count..], unsaid(c));
-    if !takes(number, c, &line[from..to], list, count) {
-        return 0;
+    if !takes(rt, number, c, &line[from..to], list, count)? {
+        return Ok(0);
     }
-    if !fits(number, c, s, remaining, list, count) {
-        return 0;
+    if !fits(rt, number, c, s, remaining, list, count)? {
+        return Ok(0);
     }
-    c
+    Ok(c)
 }
 
 // The command of a line, with its numbers; 0 for a bad line, and for one that has no word or starts with '#'.
-pub fn order(number: usize, line: &[u8], s: Screen, remaining: usize, list: &mut [i32]) -> u32
+pub fn order(
+    rt: &impl Print,
+    number: usize,
+    line: &[u8],
+    s: Screen,
+    remaining: usize,
+    list: &mut [i32],
+) -> io::Result<u32>
     requires { (1028 ≤ length list.old) × (s.depth ≤ 12) }
-    ensures { Ordered result s remaining list.new }
+    ensures { IfOk result (λ command. Ordered command s remaining list.new) }
 {
     let from = words::pass(line, 0, true);
     if line.len() <= from {
-        return 0;
+        return Ok(0);
     }
     if line[from] == 35 {
-        return 0;
+        return Ok(0);
     }
-    worded(number, line, from, s, remaining, list)
+    worded(rt, number, line, from, s, remaining, list)
 }

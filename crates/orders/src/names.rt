@@ -2,6 +2,8 @@
 ghost use Rattle.std.specs.Prelude.{◌≤◌, length};
 
 use events::say;
+use std::io;
+use words::line_end;
 
 // The number of a word among names, counted from 1; 0 for none. Each name ends with a line feed.
 fn which(line: &[u8], from: usize, to: usize, names: &[u8]) -> u32
@@ -10,7 +12,7 @@ fn which(line: &[u8], from: usize, to: usize, names: &[u8]) -> u32
     let mut at = 0;
     let mut k = 0;
     while at < names.len() {
-        let end = bytes::scan::find(names, at, names.len(), 10);
+        let end = line_end(names, at);
         k += 1;
         if words::same(line, from, to, &names[at..end]) {
             return k;
@@ -60,16 +62,17 @@ pub fn takes(form: u32, count: usize) -> bool {
 }
 
 // What a command takes.
-pub fn usage(number: usize, name: &[u8], form: u32) {
-    say::start(number);
-    say::text(b"error: ");
-    say::text(name);
-    say::text(b" takes ");
+pub fn usage(rt: &impl Print, number: usize, name: &[u8], form: u32) -> io::Result<()> {
+    say::start(rt, number)?;
+    say::text(rt, b"error: ")?;
+    say::text(rt, name)?;
+    say::text(rt, b" takes ")?;
     say::item(
+        rt,
         b"nothing\nWIDTH HEIGHT DEPTH and a pad or nothing\nROW COLUMN SIZE TYPE and coefficients\nROW COLUMN and 16 samples\na count or nothing\na NUMBER\nROW COLUMN\n",
         form as usize,
-    );
-    say::nothing();
+    )?;
+    say::nothing(rt)
 }
 
 // How many of the numbers, the first, may not be negative.

@@ -161,5 +161,5 @@ pub fn undo(
         ≡ undo_of (area (length plane.old) stride width height) (lent plane.old steps.old levels.old index.old) }
 {
     let r = history::history_undo(plane, stride, width, height, steps, levels, index);
-    check::expect(r.number == 0);
+    prove!(r.number == 0);
 }

@@ -5,29 +5,42 @@ ghost use Rattle.replay.specs.Rooms.{ByteRoom, Room, Roomy, Kept};
 
 use crate::{calls, histories};
 use answers::Answer;
+use std::io;
+use std::io::Read;
 use stream::{nums, slices};
 
 // A stream that breaks the rules is answered with this word, and nothing more.
-pub fn broken() -> bool {
-    slices::write_word(18446744073709551615);
-    false
+pub fn broken(rt: &impl Print) -> io::Result<bool> {
+    slices::write_word(rt, 18446744073709551615)?;
+    Ok(false)
 }
 
 // Runs and answers a case of one slice.
-fn answer_list(call: u64, words: [u64; 6], bytes: &mut [u8], a: &mut [i32]) -> bool
+fn answer_list(
+    rt: &impl Print,
+    call: u64,
+    words: [u64; 6],
+    bytes: &mut [u8],
+    a: &mut [i32],
+) -> io::Result<bool>
     requires { Kept bytes.old a.old }
 {
     let r = calls::run_list(call, words, a);
-    slices::write_answer(r) && slices::write_slice(bytes, a)
+    slices::write_answer(rt, r)?;
+    slices::write_slice(rt, bytes, a)?;
+    Ok(true)
 }
 
 // Writes what a call of two slices writes: both of a chroma pair, else the second.
-fn write_pair(call: u64, bytes: &mut [u8], a: &[i32], b: &[i32]) -> bool
+fn write_pair(rt: &impl Print, call: u64, bytes: &mut [u8], a: &[i32], b: &[i32]) -> io::Result<()>
     requires { Kept bytes.old a.now × Kept bytes.old b.now }
 {
     match call {
-        5 => slices::write_slice(bytes, a) && slices::write_slice(bytes, b),
-        _ => slices::write_slice(bytes, b),
+        5 => {
+            slices::write_slice(rt, bytes, a)?;
+            slices::write_slice(rt, bytes, b)
+        }
+        _ => slices::write_slice(rt, bytes, b),
     }
 }
 
@@ -55,30 +68,49 @@ fn widen(bytes: &[u8], b: &mut [i32])
 }
 
 // Runs and answers a case on a plane of bytes, which b has as numbers.
-fn answer_bytes(call: u64, words: [u64; 6], bytes: &mut [u8], a: &[i32], b: &mut [i32]) -> bool
+fn answer_bytes(
+    rt: &impl Print,
+    call: u64,
+    words: [u64; 6],
+    bytes: &mut [u8],
+    a: &[i32],
+    b: &mut [i32],
+) -> io::Result<bool>
     requires { Kept bytes.old b.old }
 {
     if !narrow(&b[..], bytes) {
-        return broken();
+        return broken(rt);
     }
     let r = run_narrow(call, words, a, bytes, b.len());
     widen(&bytes[..], b);
-    slices::write_answer(r) && slices::write_slice(bytes, b)
+    slices::write_answer(rt, r)?;
+    slices::write_slice(rt, bytes, b)?;
+    Ok(true)
 }
 
 // Runs and answers a case of two slices.
-fn answer(call: u64, words: [u64; 6], bytes: &mut [u8], a: &mut [i32], b: &mut [i32]) -> bool
+fn answer(
+    rt: &impl Print,
+    call: u64,
+    words: [u64; 6],
+    bytes: &mut [u8],
+    a: &mut [i32],
+    b: &mut [i32],
+) -> io::Result<bool>
     requires { Kept bytes.old a.old × Kept bytes.old b.old }
 {
     if calls::on_bytes(call) {
-        return answer_bytes(call, words, bytes, a, b);
+        return answer_bytes(rt, call, words, bytes, a, b);
     }
     let r = calls::run(call, words, a, b);
-    slices::write_answer(r) && write_pair(call, bytes, a, b)
+    slices::write_answer(rt, r)?;
+    write_pair(rt, call, bytes, a, b)?;
+    Ok(true)
 }
 
 // Runs and answers a case whose third slice are floats.
 fn answer_floats(
+    rt: &impl Print,
     call: u64,
     words: [u64; 6],
     bytes: &mut [u8],
@@ -86,15 +118,19 @@ fn answer_floats(
     b: &[i32],
     c: &mut [i32],
     f: &mut [f32],
-) -> bool
+) -> io::Result<bool>
     requires { Kept bytes.old c.old × (length c.old ≡ length f.old) }
 {
     let r = calls::run_floats(call, words, a, b, c, f);
-    slices::write_answer(r) && slices::write_slice(bytes, c)
+    slices::write_answer(rt, r)?;
+    slices::write_slice(rt, bytes, c)?;
+    Ok(true)
 }
 
 // Reads the third slice of a case, the bits of floats.
 fn third(
+    input: &mut impl Read,
+    rt: &impl Print,
     call: u64,
     words: [u64; 6],
     bytes: &mut [u8],
@@ -102,29 +138,39 @@ fn third(
     b: &[i32],
     c: &mut [i32],
     f: &mut [f32],
-) -> bool
+) -> io::Result<bool>
     requires { ByteRoom bytes.old × Room c.old × Room f.old }
 {
-    let n = slices::read_slice(bytes, c);
+    let n = slices::read_slice(input, bytes, c)?;
     if slices::LIMIT < n {
-        return broken();
+        return broken(rt);
     }
-    answer_floats(call, words, bytes, a, b, &mut c[..n], &mut f[..n])
+    answer_floats(rt, call, words, bytes, a, b, &mut c[..n], &mut f[..n])
 }
 
 // Reads the second and last slice of a case.
-fn last(call: u64, words: [u64; 6], bytes: &mut [u8], a: &mut [i32], b: &mut [i32]) -> bool
+fn last(
+    input: &mut impl Read,
+    rt: &impl Print,
+    call: u64,
+    words: [u64; 6],
+    bytes: &mut [u8],
+    a: &mut [i32],
+    b: &mut [i32],
+) -> io::Result<bool>
     requires { ByteRoom bytes.old × Kept bytes.old a.old × Room b.old }
 {
-    let n = slices::read_slice(bytes, b);
+    let n = slices::read_slice(input, bytes, b)?;
     if slices::LIMIT < n {
-        return broken();
+        return broken(rt);
     }
-    answer(call, words, bytes, a, &mut b[..n])
+    answer(rt, call, words, bytes, a, &mut b[..n])
 }
 
 // Reads the second slice of a case that has three.
 fn second(
+    input: &mut impl Read,
+    rt: &impl Print,
     call: u64,
     words: [u64; 6],
     bytes: &mut [u8],
@@ -132,18 +178,20 @@ fn second(
     b: &mut [i32],
     c: &mut [i32],
     f: &mut [f32],
-) -> bool
+) -> io::Result<bool>
     requires { ByteRoom bytes.old × Room b.old × Room c.old × Room f.old }
 {
-    let n = slices::read_slice(bytes, b);
+    let n = slices::read_slice(input, bytes, b)?;
     if slices::LIMIT < n {
-        return broken();
+        return broken(rt);
     }
-    third(call, words, bytes, a, &b[..n], c, f)
+    third(input, rt, call, words, bytes, a, &b[..n], c, f)
 }
 
 // Goes on to the other slices of a case, if it has others.
 fn others(
+    input: &mut impl Read,
+    rt: &impl Print,
     call: u64,
     words: [u64; 6],
     bytes: &mut [u8],
@@ -151,18 +199,20 @@ fn others(
     b: &mut [i32],
     c: &mut [i32],
     f: &mut [f32],
-) -> bool
+) -> io::Result<bool>
     requires { ByteRoom bytes.old × Kept bytes.old a.old × Room b.old × Room c.old × Room f.old }
 {
     match calls::slices(call) {
-        1 => answer_list(call, words, bytes, a),
-        3 => second(call, words, bytes, a, b, c, f),
-        _ => last(call, words, bytes, a, b),
+        1 => answer_list(rt, call, words, bytes, a),
+        3 => second(input, rt, call, words, bytes, a, b, c, f),
+        _ => last(input, rt, call, words, bytes, a, b),
     }
 }
 
 // Reads the first slice of a case.
 fn first(
+    input: &mut impl Read,
+    rt: &impl Print,
     call: u64,
     words: [u64; 6],
     bytes: &mut [u8],
@@ -170,52 +220,62 @@ fn first(
     b: &mut [i32],
     c: &mut [i32],
     f: &mut [f32],
-) -> bool
+) -> io::Result<bool>
     requires { Roomy bytes.old a.old b.old c.old f.old }
 {
-    let n = slices::read_slice(bytes, a);
+    let n = slices::read_slice(input, bytes, a)?;
     if slices::LIMIT < n {
-        return broken();
+        return broken(rt);
     }
-    others(call, words, bytes, &mut a[..n], b, c, f)
+    others(input, rt, call, words, bytes, &mut a[..n], b, c, f)
 }
 
 // Reads a case after its number.
 fn case(
+    input: &mut impl Read,
+    rt: &impl Print,
     call: u64,
     bytes: &mut [u8],
     a: &mut [i32],
     b: &mut [i32],
     c: &mut [i32],
     f: &mut [f32],
-) -> bool
+) -> io::Result<bool>
     requires { Roomy bytes.old a.old b.old c.old f.old }
 {
     let mut words = [0u64; 6];
-    if !slices::read_words(&mut words, calls::words(call)) {
-        return broken();
+    if !slices::read_words(input, &mut words, calls::words(call))? {
+        return broken(rt);
     }
     if !calls::in_types(call, words) {
-        return broken();
+        return broken(rt);
     }
     if calls::remembers(call) {
-        return histories::case(call, words, a, b);
+        return histories::case(input, rt, call, words, a, b);
     }
-    first(call, words, bytes, a, b, c, f)
+    first(input, rt, call, words, bytes, a, b, c, f)
 }
 
 // Reads and answers the next case.
-pub fn next(bytes: &mut [u8], a: &mut [i32], b: &mut [i32], c: &mut [i32], f: &mut [f32]) -> bool
+pub fn next(
+    input: &mut impl Read,
+    rt: &impl Print,
+    bytes: &mut [u8],
+    a: &mut [i32],
+    b: &mut [i32],
+    c: &mut [i32],
+    f: &mut [f32],
+) -> io::Result<bool>
     requires { Roomy bytes.old a.old b.old c.old f.old }
 {
-    match slices::read_word() {
+    match slices::read_word(input)? {
         slices::Word::Is(call) => {
             if calls::known(call) {
-                return case(call, bytes, a, b, c, f);
+                return case(input, rt, call, bytes, a, b, c, f);
             }
-            broken()
+            broken(rt)
         }
-        slices::Word::End => false,
-        slices::Word::Cut => broken(),
+        slices::Word::End => Ok(false),
+        slices::Word::Cut => broken(rt),
     }
 }

@@ -5,6 +5,8 @@ ghost use Rattle.replay.specs.Rooms.{Room, WideBytes, Wide, Kept, Short};
 
 use crate::{calls, cases};
 use answers::Answer;
+use std::io;
+use std::io::Read;
 use stream::{nums, slices};
 
 // Runs a case on numbers without a sign, which stand in s and x by their bits.
@@ -49,33 +51,53 @@ fn run_in(
 }
 
 // Writes two slices of the memory of a history.
-fn write_two(bytes: &mut [u8], l: &[i32], x: &[i32]) -> bool
+fn write_two(rt: &impl Print, bytes: &mut [u8], l: &[i32], x: &[i32]) -> io::Result<()>
     requires { Kept bytes.old l.now × Kept bytes.old x.now }
 {
-    slices::write_trimmed(bytes, l) && slices::write_trimmed(bytes, x)
+    slices::write_trimmed(rt, bytes, l)?;
+    slices::write_trimmed(rt, bytes, x)
 }
 
 // Writes the memory of a history.
-fn write_memory(bytes: &mut [u8], s: &[i32], l: &[i32], x: &[i32]) -> bool
+fn write_memory(
+    rt: &impl Print,
+    bytes: &mut [u8],
+    s: &[i32],
+    l: &[i32],
+    x: &[i32],
+) -> io::Result<()>
     requires { Kept bytes.old s.now × Kept bytes.old l.now × Kept bytes.old x.now }
 {
-    slices::write_trimmed(bytes, s) && write_two(bytes, l, x)
+    slices::write_trimmed(rt, bytes, s)?;
+    write_two(rt, bytes, l, x)
 }
 
 // Writes what a call writes.
-fn write_all(call: u64, bytes: &mut [u8], b: &[i32], s: &[i32], l: &[i32], x: &[i32]) -> bool
+fn write_all(
+    rt: &impl Print,
+    call: u64,
+    bytes: &mut [u8],
+    b: &[i32],
+    s: &[i32],
+    l: &[i32],
+    x: &[i32],
+) -> io::Result<()>
     requires { Kept bytes.old b.now × Kept bytes.old s.now × Kept bytes.old l.now × Kept bytes.old x.now }
 {
     match call {
-        31 => true,
-        32 => slices::write_trimmed(bytes, x),
-        33 => write_memory(bytes, s, l, x),
-        _ => slices::write_slice(bytes, b) && write_memory(bytes, s, l, x),
+        31 => Ok(()),
+        32 => slices::write_trimmed(rt, bytes, x),
+        33 => write_memory(rt, bytes, s, l, x),
+        _ => {
+            slices::write_slice(rt, bytes, b)?;
+            write_memory(rt, bytes, s, l, x)
+        }
     }
 }
 
 // Runs and answers a case.
 fn answer(
+    rt: &impl Print,
     call: u64,
     words: [u64; 6],
     bytes: &mut [u8],
@@ -84,17 +106,21 @@ fn answer(
     s: &mut [i32],
     l: &mut [i32],
     x: &mut [i32],
-) -> bool
+) -> io::Result<bool>
     requires { Kept bytes.old b.old × Kept bytes.old s.old × Kept bytes.old l.old × Kept bytes.old x.old × Short s.old × Short x.old }
 {
     let mut steps = [0u32; 70000];
     let mut index = [0u32; 70000];
     let r = run_in(call, words, a, b, s, l, x, &mut steps, &mut index);
-    slices::write_answer(r) && write_all(call, bytes, b, s, l, x)
+    slices::write_answer(rt, r)?;
+    write_all(rt, call, bytes, b, s, l, x)?;
+    Ok(true)
 }
 
 // Reads the index.
 fn index(
+    input: &mut impl Read,
+    rt: &impl Print,
     call: u64,
     words: [u64; 6],
     bytes: &mut [u8],
@@ -103,18 +129,20 @@ fn index(
     s: &mut [i32],
     l: &mut [i32],
     x: &mut [i32],
-) -> bool
+) -> io::Result<bool>
     requires { WideBytes bytes.old × Kept bytes.old b.old × Kept bytes.old s.old × Kept bytes.old l.old × Short s.old × Wide x.old }
 {
-    let n = slices::read_trimmed(bytes, x);
+    let n = slices::read_trimmed(input, bytes, x)?;
     if slices::TRIMMED < n {
-        return cases::broken();
+        return cases::broken(rt);
     }
-    answer(call, words, bytes, a, b, s, l, &mut x[..n])
+    answer(rt, call, words, bytes, a, b, s, l, &mut x[..n])
 }
 
 // Reads the levels of the history.
 fn levels(
+    input: &mut impl Read,
+    rt: &impl Print,
     call: u64,
     words: [u64; 6],
     bytes: &mut [u8],
@@ -123,18 +151,20 @@ fn levels(
     s: &mut [i32],
     l: &mut [i32],
     x: &mut [i32],
-) -> bool
+) -> io::Result<bool>
     requires { WideBytes bytes.old × Kept bytes.old b.old × Kept bytes.old s.old × Short s.old × Wide l.old × Wide x.old }
 {
-    let n = slices::read_trimmed(bytes, l);
+    let n = slices::read_trimmed(input, bytes, l)?;
     if slices::TRIMMED < n {
-        return cases::broken();
+        return cases::broken(rt);
     }
-    index(call, words, bytes, a, b, s, &mut l[..n], x)
+    index(input, rt, call, words, bytes, a, b, s, &mut l[..n], x)
 }
 
 // Reads the steps.
 fn steps(
+    input: &mut impl Read,
+    rt: &impl Print,
     call: u64,
     words: [u64; 6],
     bytes: &mut [u8],
@@ -143,18 +173,20 @@ fn steps(
     s: &mut [i32],
     l: &mut [i32],
     x: &mut [i32],
-) -> bool
+) -> io::Result<bool>
     requires { WideBytes bytes.old × Kept bytes.old b.old × Wide s.old × Wide l.old × Wide x.old }
 {
-    let n = slices::read_trimmed(bytes, s);
+    let n = slices::read_trimmed(input, bytes, s)?;
     if slices::TRIMMED < n {
-        return cases::broken();
+        return cases::broken(rt);
     }
-    levels(call, words, bytes, a, b, &mut s[..n], l, x)
+    levels(input, rt, call, words, bytes, a, b, &mut s[..n], l, x)
 }
 
 // Reads the plane.
 fn plane(
+    input: &mut impl Read,
+    rt: &impl Print,
     call: u64,
     words: [u64; 6],
     bytes: &mut [u8],
@@ -163,28 +195,35 @@ fn plane(
     s: &mut [i32],
     l: &mut [i32],
     x: &mut [i32],
-) -> bool
+) -> io::Result<bool>
     requires { WideBytes bytes.old × Room b.old × Wide s.old × Wide l.old × Wide x.old }
 {
-    let n = slices::read_slice(bytes, b);
+    let n = slices::read_slice(input, bytes, b)?;
     if slices::LIMIT < n {
-        return cases::broken();
+        return cases::broken(rt);
     }
-    steps(call, words, bytes, a, &mut b[..n], s, l, x)
+    steps(input, rt, call, words, bytes, a, &mut b[..n], s, l, x)
 }
 
 // Reads the levels of a step; no other call has them.
-fn read_level(call: u64, bytes: &mut [u8], a: &mut [i32]) -> usize
+fn read_level(
+    input: &mut impl Read,
+    call: u64,
+    bytes: &mut [u8],
+    a: &mut [i32],
+) -> io::Result<usize>
     requires { WideBytes bytes.old × Room a.old }
 {
     match call {
-        28 => slices::read_slice(bytes, a),
-        _ => 0,
+        28 => slices::read_slice(input, bytes, a),
+        _ => Ok(0),
     }
 }
 
 // Reads the first slice.
 fn level(
+    input: &mut impl Read,
+    rt: &impl Print,
     call: u64,
     words: [u64; 6],
     bytes: &mut [u8],
@@ -193,23 +232,32 @@ fn level(
     s: &mut [i32],
     l: &mut [i32],
     x: &mut [i32],
-) -> bool
+) -> io::Result<bool>
     requires { WideBytes bytes.old × Room a.old × Room b.old × Wide s.old × Wide l.old × Wide x.old }
 {
-    let n = read_level(call, bytes, a);
+    let n = read_level(input, call, bytes, a)?;
     if slices::LIMIT < n {
-        return cases::broken();
+        return cases::broken(rt);
     }
-    plane(call, words, bytes, &a[..n], b, s, l, x)
+    plane(input, rt, call, words, bytes, &a[..n], b, s, l, x)
 }
 
 // Reads and answers a case after its words.
-pub fn case(call: u64, words: [u64; 6], a: &mut [i32], b: &mut [i32]) -> bool
+pub fn case(
+    input: &mut impl Read,
+    rt: &impl Print,
+    call: u64,
+    words: [u64; 6],
+    a: &mut [i32],
+    b: &mut [i32],
+) -> io::Result<bool>
     requires { Room a.old × Room b.old }
 {
     let mut bytes = [0u8; 280000];
     let mut s = [0i32; 70000];
     let mut l = [0i32; 70000];
     let mut x = [0i32; 70000];
-    level(call, words, &mut bytes, a, b, &mut s, &mut l, &mut x)
+    level(
+        input, rt, call, words, &mut bytes, a, b, &mut s, &mut l, &mut x,
+    )
 }

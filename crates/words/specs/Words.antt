@@ -1,5 +1,6 @@
 -- A line of text as words and decimal numbers. A byte is its number. Definitions only.
 --     blank, passed, words_of        the bytes between words; what a search passes over; the words of a text
+--     in_line_at                   whether a line goes on at a place of a text: the byte there is no line feed
 --     alike                         whether two lists of bytes are the same
 --     digit, all_digits, value_of     decimal digits, and their value by Horner's rule
 --     size_of, is_number, number_of    the size of a number, none where there is none; whether a word is a number, and which
@@ -17,6 +18,10 @@ passed blanks b = cond blanks (blank b) (not (blank b))
 -- the same, of the byte at a place
 abbrev pub passed_at : Bool → List ℕ → ℕ → Bool
 passed_at blanks line k = passed blanks (get_or line k 0)
+
+-- whether the byte at a place of a text is no line feed
+abbrev pub in_line_at : List ℕ → ℕ → Bool
+in_line_at text k = not (eqb (get_or text k 0) 10)
 
 unfoldable pub alike : List ℕ → List ℕ → Bool
 alike [] [] = true

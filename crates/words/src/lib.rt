@@ -5,7 +5,7 @@ mod decimal;
 mod text;
 
 pub use decimal::numbers;
-pub use text::{pass, same};
+pub use text::{line_end, pass, same};
 
 // How many numbers were read, and whether every word was one.
 #[derive(Clone, Copy)]

@@ -1,8 +1,8 @@
-// Blanks and words of a line.
+// Blanks and words of a line, and where a line ends.
 ghost use Rattle.std.specs.Prelude.{◌≡◌, ◌-◌, ◌≤◌, length};
 ghost use Rattle.std.proofs.Math.Seq.{slice};
 ghost use Rattle.whole.specs.Search.{seek};
-ghost use Rattle.words.specs.Words.{blank, passed, passed_at, alike};
+ghost use Rattle.words.specs.Words.{blank, passed, passed_at, alike, in_line_at};
 
 fn is_blank(b: u8) -> bool
     ensures { result ≡ blank b }
@@ -49,4 +49,20 @@ pub fn same(line: &[u8], from: usize, to: usize, word: &[u8]) -> bool
         i += 1;
     }
     true
+}
+
+// The end of the line that starts at `from`: the next line feed, or the end of the text.
+pub fn line_end(text: &[u8], from: usize) -> usize
+    requires { from ≤ length text.now }
+    ensures lower_bound { (from ≤ result) × (result ≤ length text.now) }
+    ensures value { result ≡ seek (in_line_at text.now) from (length text.now - from) }
+{
+    let mut i = from;
+    while i < text.len() {
+        if text[i] == 10 {
+            return i;
+        }
+        i += 1;
+    }
+    i
 }
