@@ -1,7 +1,7 @@
 // A line of a script into a command that can be carried out (docs/GLASS.md). Every bad line is named here; what is left asks for nothing more.
 #![tactic(auto)]
 
-ghost use Rattle.std.specs.Prelude.{true, ◌≡◌, ◌≤◌, ◌<◌, length, IfOk};
+ghost use Rattle.std.specs.Prelude.{true, ◌≡◌, ◌≤◌, ◌<◌, length, IfOk, OnErr};
 ghost use Rattle.lossless.specs.Wanted.{Samples};
 ghost use Rattle.screen.specs.Planes.{argument};
 ghost use Rattle.screen.specs.Screens.{possible_of};
@@ -225,7 +225,8 @@ fn worded(
     list: &mut [i32],
 ) -> io::Result<u32>
     requires { (from ≤ length line.now) × (1028 ≤ length list.old) × (s.depth ≤ 12) }
-    ensures { IfOk result (λ command. Ordered command s remaining list.new) }
+    ensures ok { IfOk result (λ command. Ordered command s remaining list.new) }
+    ensures err { OnErr result (length list.new ≡ length list.old) }
 {
     let to = words::pass(line, from, false);
     let c = names::command(line, from, to);
@@ -250,6 +251,7 @@ fn worded(
 }
 
 // The command of a line, with its numbers; 0 for a bad line, and for one that has no word or starts with '#'.
+// Where writing fails, the list may hold any numbers.
 pub fn order(
     rt: &impl Print,
     number: usize,
@@ -259,7 +261,8 @@ pub fn order(
     list: &mut [i32],
 ) -> io::Result<u32>
     requires { (1028 ≤ length list.old) × (s.depth ≤ 12) }
-    ensures { IfOk result (λ command. Ordered command s remaining list.new) }
+    ensures ok { IfOk result (λ command. Ordered command s remaining list.new) }
+    ensures err { OnErr result (length list.new ≡ length list.old) }
 {
     let from = words::pass(line, 0, true);
     if line.len() <= from {

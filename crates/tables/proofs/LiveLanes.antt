@@ -3,6 +3,7 @@
 --     blank-cols                                  the numbers of a list of records of zeros
 --     Laying, lay-start, -more, -done             a loop that stores the first live records in a list of zeros
 --     Resting, rest-start, -more, -done           a loop that stores zeros from record live on
+--     Keeping, keep-start, -more, -done           a loop that puts the record of zeros in the place of every record from live on
 --     Folding, fold_start, -more, -done           a loop that writes a butterfly of h records from both ends inward
 --     Growing, grow-start, -more, -now            the same in place: it joins an odd half to an even one
 --     four_are                                    four records that hold the first four inputs
@@ -17,7 +18,7 @@ use native.Mathlib.Omega.{arith}
 use borrow.Author.Tests.{ltb-true, ltb-false}
 use lib.Dec.{ltb}
 use lib.IntN.{ℤ, pos}
-use lib.ListN.{length, get_or, set, take, length-set}
+use lib.ListN.{length, get_or, set, take, length-set, length-take}
 use lib.Seq.{get_or-set_same, get_or-set_other, get_or-take}
 use Rattle.whole.specs.Sums.{tab}
 use Rattle.whole.specs.Lanes.{col}
@@ -26,7 +27,7 @@ use Rattle.whole.proofs.Cells.{under}
 use Rattle.whole.proofs.Fill.{filled-all}
 use Rattle.whole.proofs.Lanes.{col-length, col-set}
 use Rattle.tables.specs.Dense.{first_of}
-use Rattle.tables.proofs.First.{first-is, first-in, first_out, first-length, front_length, front-is}
+use Rattle.tables.proofs.First.{past as past-end, first-is, first-in, first_out, first-length, front_length, front-is}
 use Rattle.tables.proofs.Clearing.{Clearing, clear-start, clear-more}
 
 module _ {R : Type 0} (at : R → ℕ → ℤ) where
@@ -202,3 +203,33 @@ module _ {R : Type 0} (at : R → ℕ → ℤ) where
 
       front : take 4 (first_of live (take n (col at k ls))) ≡ tab 4 (λ i. get_or (first_of live (take n (col at k ls))) i (pos 0))
       front = front-is 4 (first_of live (take n (col at k ls))) (subst (λ (v : ℕ). 4 ≤ v) (sym long) f)
+
+module _ {R : Type 0} (at : R → ℕ → ℤ) where
+  -- ---- from live on, zeros
+  pub record Keeping (live : ℕ) (old rs : List R) (i : ℕ) : Type 0 where
+    pub long : length rs ≡ length old
+    pub gone : (k : ℕ) → Clearing live (col at k old) (col at k rs) i
+
+  pub keep-start : {live : ℕ} {old : List R} → Keeping live old old live
+  keep-start = record { long = refl; gone = λ k. clear-start }
+
+  pub keep-more : {live : ℕ} {old rs : List R} {i : ℕ} {z : R} → Keeping live old rs i → i < length rs → ((k : ℕ) → at z k ≡ pos 0) → Keeping live old (set rs i z) (i + 1)
+  keep-more {live} {old} {rs} {i} {z} p h e = record {
+    long = length-set rs i z ∙ p.long;
+    gone = λ k. subst (λ (l : List ℤ). Clearing live (col at k old) l (i + 1)) (sym (col-set at k rs i z ∙ ap (set (col at k rs) i) (e k))) (clear-more (p.gone k) (subst (λ (n : ℕ). i < n) (sym (col-length at k rs)) h));
+  }
+
+  pub keep-done : {live n : ℕ} {old rs : List R} {i : ℕ} → Keeping live old rs i → n ≤ i → n ≤ length old → (k : ℕ) → take n (col at k rs) ≡ first_of live (take n (col at k old))
+  keep-done {live} {n} {old} {rs} {i} p h l k =
+      first-is live (take n (col at k old)) (take n (col at k rs)) (count rs (subst (λ (m : ℕ). n ≤ m) (sym p.long) l) ∙ sym (count old l))
+      (λ j q. low j q (under n j))
+      (λ j q r. let z = subst (λ (m : ℕ). j < m) (count old l) r in get_or-take n (col at k rs) j (pos 0) z ∙ (p.gone k).gone j q (N.lt_of_lt_of_le z h))
+    where
+      count : (ls : List R) → n ≤ length ls → length (take n (col at k ls)) ≡ n
+      count ls m = length-take n (col at k ls) ∙ N.min-eq_left (subst (λ (v : ℕ). n ≤ v) (sym (col-length at k ls)) m)
+
+      low : (j : ℕ) → j < live → ((n ≤ j) ⊎ (j < n)) → get_or (take n (col at k rs)) j (pos 0) ≡ get_or (take n (col at k old)) j (pos 0)
+      low j q (inr z) = get_or-take n (col at k rs) j (pos 0) z ∙ (p.gone k).low j q ∙ sym (get_or-take n (col at k old) j (pos 0) z)
+      low j q (inl z) =
+          past-end (take n (col at k rs)) j (subst (λ (m : ℕ). m ≤ j) (sym (count rs (subst (λ (m : ℕ). n ≤ m) (sym p.long) l))) z)
+          ∙ sym (past-end (take n (col at k old)) j (subst (λ (m : ℕ). m ≤ j) (sym (count old l)) z))

@@ -1,7 +1,7 @@
 -- Rows of sixteen in a list, and what is left of them by the functions that write two rows. Assumes nothing.
 --     put_both                                  two rows that callees filled, and every other row as it was
 --     wide, bytes2, bytes4, bytes8              weights of 8 bits, read from a table as numbers of 32 bits, are the table's
---     small4, small8                            they are within 2^7
+--     small2, small4, small8                    they are within 2^7
 --     row_count, row_within                     a row that is lent has sixteen numbers, within the bound of the row
 --     started-row                               what `row_of_two` leaves
 --     joined-row, joined-long                   what `row_of_four` and `row_of_eight` leave, and `row_of_sixteen`
@@ -74,6 +74,9 @@ wide a = word (to_z w8 (of_z w8 a))
 module _ (a0 a1 : ℤ) (f0 : mag a0 < 2 ^ 7) (f1 : mag a1 < 2 ^ 7) where
   pub bytes2 : (wide a0 ∷ wide a1 ∷ []) ≡ (a0 ∷ a1 ∷ [])
   bytes2 = λ i. byte-is a0 f0 i ∷ byte-is a1 f1 i ∷ []
+
+  pub small2 : Within (2 ^ 7) (wide a0 ∷ wide a1 ∷ [])
+  small2 k h = small_at (cons (byte-size a0 f0) (cons (byte-size a1 f1) nil)) k
 
 module _ (a0 a1 a2 a3 : ℤ) (f0 : mag a0 < 2 ^ 7) (f1 : mag a1 < 2 ^ 7) (f2 : mag a2 < 2 ^ 7) (f3 : mag a3 < 2 ^ 7) where
   pub bytes4 : (wide a0 ∷ wide a1 ∷ wide a2 ∷ wide a3 ∷ []) ≡ (a0 ∷ a1 ∷ a2 ∷ a3 ∷ [])
