@@ -6,6 +6,7 @@ ghost use Rattle.byteplanes.specs.Bytes.{narrow, bytes_verdict};
 use answers::Answer;
 
 // Refusals 1, 2 and 11.
+#[tactic(auto, using(std::proofs::lemmas::Bool::Decides::nat_tests))]
 fn judge_narrow(tx: usize, bd: u32) -> Answer
     ensures { result ≡ narrow tx bd done }
 {

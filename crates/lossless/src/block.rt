@@ -53,7 +53,8 @@ pub fn judge(plane: &[i32], gains: &[i32], depth: u32, start: usize, stride: usi
         return answers::refusal(8, 2, spot_of(start, stride, bad));
     }
     let leaving = first_leaving(plane, gains, start, stride, hi);
-    if leaving < 16 {
+    let leaves = leaving < 16;
+    if leaves {
         return answers::refusal(10, 2, spot_of(start, stride, leaving));
     }
     answers::finished()

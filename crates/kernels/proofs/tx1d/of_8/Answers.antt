@@ -1,6 +1,7 @@
 -- `kernels::tx1d::of_8` meets its contract: each arm leaves the product of its code. Assumes nothing.
 use mathlib.Core.Path.{◌≡◌}
 use native.Mathlib.Omega.{arith}
+use borrow.Author.Rules.{rules}
 use borrow.Author.Tests.{leb-true}
 use lib.IntN.{pos}
 use Rattle.tables.specs.Dense.{first_of, dense_of}
@@ -17,7 +18,7 @@ returns-in-1 c = by_code (first_of c.args.live c.args.c.now) 8 c.in-1.is (times-
 
 pub returns-in-2 : goal.returns-in-2
 unfolding dense_of
-returns-in-2 c = by_code (first_of c.args.live c.args.c.now) 8 c.in-2.is c.inv_adst8.ensures
+returns-in-2 c = by_code (first_of c.args.live c.args.c.now) 8 c.in-2.is (search rules)
 
 pub returns-in-3 : goal.returns-in-3
 unfolding dense_of
@@ -25,7 +26,7 @@ returns-in-3 c = by_code (first_of c.args.live c.args.c.now) 8 c.in-3.is c.inv_f
 
 pub returns-in-4 : goal.returns-in-4
 unfolding dense_of
-returns-in-4 c = by_code (first_of c.args.live c.args.c.now) 8 c.in-4.is c.inv_ddt8.ensures
+returns-in-4 c = by_code (first_of c.args.live c.args.c.now) 8 c.in-4.is (search rules)
 
 pub returns-in_default : goal.returns-in_default
 unfolding dense_of

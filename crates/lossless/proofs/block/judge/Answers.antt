@@ -72,18 +72,18 @@ first_leaving-leaving-requires c =
       gains = s.requires.2;
     }
 
-pub returns-then-leaving-lt16 : goal.returns-then-leaving-lt16
-returns-then-leaving-lt16 c =
+pub returns-then-leaves : goal.returns-then-leaves
+returns-then-leaves c =
     let p = c.before in
     let b = p.before.before in
     let e = b.before in
     let s = e.before.before.before in
-    c.refusal-then-leaving-lt16.ensures ∙ ap (λ k. refused 10 2 k) (p.spot_of-then-leaving-lt16.ensures ∙ ap (Cell s) (leaving b))
-    ∙ sym (then10 e ∙ search-stops 10 2 16 (Cell s) (Leaving s) done (subst (λ (k : ℕ). k < 16) (leaving b) p.if-leaving-lt16.true))
+    c.refusal-then-leaves.ensures ∙ ap (λ k. refused 10 2 k) (p.spot_of-then-leaves.ensures ∙ ap (Cell s) (leaving b))
+    ∙ sym (then10 e ∙ search-stops 10 2 16 (Cell s) (Leaving s) done (subst (λ (k : ℕ). k < 16) (leaving b) p.if-leaves.true))
 
 pub returns : goal.returns
 returns c =
     let b = c.before.before in
     let e = b.before in
     let s = e.before.before.before in
-    c.finished.ensures ∙ sym (then10 e ∙ search-opens 10 2 16 (Cell s) (Leaving s) done (subst (λ (k : ℕ). 16 ≤ k) (leaving b) c.if-leaving-lt16.false))
+    c.finished.ensures ∙ sym (then10 e ∙ search-opens 10 2 16 (Cell s) (Leaving s) done (subst (λ (k : ℕ). 16 ≤ k) (leaving b) c.if-leaves.false))

@@ -54,8 +54,8 @@ offset_bounds-p-a c = omega (arith, end c, c.well_formed.0.1)
 pub slice_bounds-row_outside-end : goal.slice_bounds-row_outside-end
 slice_bounds-row_outside-end c = omega (arith, end c)
 
-pub row_outside-requires : goal.row_outside-requires
-row_outside-requires c =
+pub row_outside-fails-requires : goal.row_outside-fails-requires
+row_outside-fails-requires c =
     subst (λ (n : ℕ). n ≤ 64) (sym (lent-count (pos 0) c.args.p.now (c.loop-r.r * c.args.stride) c.args.w (end c.before))) c.requires.0
 
 pub first_outside-requires : goal.first_outside-requires
@@ -65,8 +65,8 @@ first_outside-requires c =
       by_index = λ r h. omega (arith, c.requires.2 r h);
     }
 
-pub returns-then-row_outside-ne0 : goal.returns-then-row_outside-ne0
-returns-then-row_outside-ne0 c =
+pub returns-then-fails : goal.returns-then-fails
+returns-then-fails c =
     rw (to_z-of_z w32 c.args.lo c.ranges.lo, to_z-of_z w32 c.args.hi c.ranges.hi) at c.first_outside.ensures
 
 pub loop-r-preserved : goal.loop-r-preserved
@@ -77,7 +77,7 @@ loop-r-preserved c =
       omega (arith, c.loop-r-test.true),
       more lo hi c.args.p.now c.args.stride c.args.w c.loop-r.r c.loop-r.invariant.1
           (λ x b. subst (λ (v : ℤ). in_range lo hi v ≡ true) (lent_at (pos 0) c.args.p.now a c.args.w (end c.before.before.before) x b)
-          (c.row_outside.ensures c.if-row_outside-ne0.false x (subst (λ (n : ℕ). x < n) (sym (lent-count (pos 0) c.args.p.now a c.args.w (end c.before.before.before))) b))),
+          (c.row_outside-fails.ensures c.if-fails.false x (subst (λ (n : ℕ). x < n) (sym (lent-count (pos 0) c.args.p.now a c.args.w (end c.before.before.before))) b))),
     )
 
 pub overflow_mul-result : goal.overflow_mul-result
