@@ -43,7 +43,8 @@ fn judge(n: usize, bits: u32, t: &[i32]) -> Answer
     if bits < 16 {
         return answers::refusal(1, 0, 0);
     }
-    if 20 < bits {
+    let wide = 20 < bits;
+    if wide {
         return answers::refusal(1, 0, 0);
     }
     if !has_length(n) {

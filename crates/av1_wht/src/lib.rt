@@ -14,7 +14,8 @@ fn judge(bits: u32, t: &[i32]) -> Answer
     if bits < 16 {
         return answers::refusal(1, 0, 0);
     }
-    if 20 < bits {
+    let wide = 20 < bits;
+    if wide {
         return answers::refusal(1, 0, 0);
     }
     if t.len() != 16 {

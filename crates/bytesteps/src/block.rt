@@ -69,7 +69,8 @@ pub fn gain(plane: &mut [u8], gains: &[i32], start: usize, stride: usize) -> Ans
         (map nat_abs (gained (cell_at start stride 4) (item gains.now) (map pos plane.old))) }
 {
     let leaving = first_leaving(plane, gains, start, stride);
-    if leaving < 16 {
+    let leaves = leaving < 16;
+    if leaves {
         return answers::refusal(10, 2, lossless::block::spot_of(start, stride, leaving));
     }
     add(plane, gains, start, stride);

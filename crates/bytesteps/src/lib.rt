@@ -25,7 +25,8 @@ fn step_or_undo(
 ) -> Answer
     ensures { (result, plane.new) ≡ on_bytes (λ p s. gain_of p s (item (change undo level.now))) plane.old (attempt depth stride width row column level.now) }
 {
-    if depth != 8 {
+    let deep = depth != 8;
+    if deep {
         return answers::refusal(1, 0, 0);
     }
     let a = lossless::front::judge(plane.len(), depth, stride, width, row, column, level);

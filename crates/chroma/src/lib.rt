@@ -104,7 +104,8 @@ fn judge(u: &[i32], v: &[i32], sina: i32, cosa: i32, bd: u32) -> Answer
     if bd < 8 {
         return answers::refusal(1, 0, 0);
     }
-    if 12 < bd {
+    let deep = 12 < bd;
+    if deep {
         return answers::refusal(1, 0, 0);
     }
     if u.len() != v.len() {
@@ -130,7 +131,8 @@ pub fn cctx(u: &mut [i32], v: &mut [i32], sina: i32, cosa: i32, bd: u32) -> Answ
     ensures { (result, (u.new, v.new)) ≡ cctx_of u.old v.old sina cosa bd }
 {
     let a = judge(u, v, sina, cosa, bd);
-    if a.number != 0 {
+    let stops = a.number != 0;
+    if stops {
         return a;
     }
     let lo = ranges::low_end(bd + 7);

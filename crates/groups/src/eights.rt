@@ -33,7 +33,8 @@ fn put_eight(work: &mut [i32], q: usize, s: usize, l: Lane8, lines: usize)
     ensures { work.new ≡ puts lines (walk q s) (lane l) work.old }
 {
     put_four(work, q, s, Lane(l.0, l.1, l.2, l.3));
-    if 4 < lines {
+    let eight = 4 < lines;
+    if eight {
         let far = q + s + s + s + s;
         put_four(work, far, s, Lane(l.4, l.5, l.6, l.7));
     }

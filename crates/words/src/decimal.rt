@@ -34,7 +34,8 @@ fn digits(line: &[u8], from: usize, to: usize) -> u32
             return NONE;
         }
         // One digit more would pass MOST.
-        if 214748364 < v {
+        let large = 214748364 < v;
+        if large {
             return NONE;
         }
         v = 10 * v + (b - 48) as u32;

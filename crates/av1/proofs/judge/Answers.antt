@@ -16,8 +16,8 @@ use Rattle.av1.proofs.judge.Lts as lts
 use Rattle.av1.proofs.judge.Reads as reads
 use Rattle.av1.proofs.judge.Tie as tie
 
-abbrev Else-bits-gt20 : Type 0
-Else-bits-gt20 = lts.Else2 tie.the-claims reads.Pre reads.Post
+abbrev Else-wide : Type 0
+Else-wide = lts.Else2 tie.the-claims reads.Pre reads.Post
 
 abbrev Else-not-has_length : Type 0
 Else-not-has_length = lts.Else3 tie.the-claims reads.Pre reads.Post
@@ -29,8 +29,8 @@ abbrev After-first_bad-found : Type 0
 After-first_bad-found = lts.After-first_bad tie.the-claims reads.Pre reads.Post
 
 -- ---- the tests, each where the code has passed it
-bits-ok : (c : Else-bits-gt20) → let b = c.args.bits in (leb 16 b && leb b 20) ≡ true
-bits-ok c = let b = c.args.bits in and-true (le-leb 16 b c.if-bits-lt16.false) (le-leb b 20 c.if-bits-gt20.false)
+bits-ok : (c : Else-wide) → let b = c.args.bits in (leb 16 b && leb b 20) ≡ true
+bits-ok c = let b = c.args.bits in and-true (le-leb 16 b c.if-bits-lt16.false) (le-leb b 20 c.if-wide.false)
 
 okay : (c : Else-not-has_length) → length_ok c.args.n ≡ true
 okay c = sym c.has_length.ensures ∙ not-false _ c.if-not-has_length.false-raw
@@ -47,11 +47,11 @@ pub returns-then-bits-lt16 : goal.returns-then-bits-lt16
 unfolding front
 returns-then-bits-lt16 c = rw (lt-leb 16 c.args.bits c.if-bits-lt16.true) c.refusal.ensures
 
-pub returns-then-bits-gt20 : goal.returns-then-bits-gt20
+pub returns-then-wide : goal.returns-then-wide
 unfolding front
-returns-then-bits-gt20 c =
+returns-then-wide c =
     let b = c.args.bits in
-    rw (le-leb 16 b c.if-bits-lt16.false, lt-leb b 20 c.if-bits-gt20.true) c.refusal-then-bits-gt20.ensures
+    rw (le-leb 16 b c.if-bits-lt16.false, lt-leb b 20 c.if-wide.true) c.refusal-then-wide.ensures
 
 pub returns-then-not-has_length : goal.returns-then-not-has_length
 unfolding front

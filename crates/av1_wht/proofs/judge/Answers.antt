@@ -14,8 +14,8 @@ use Rattle.av1_wht.proofs.judge.Lts as lts
 use Rattle.av1_wht.proofs.judge.Reads as reads
 use Rattle.av1_wht.proofs.judge.Tie as tie
 
-abbrev Else-bits-gt20 : Type 0
-Else-bits-gt20 = lts.Else2 tie.the-claims reads.Pre reads.Post
+abbrev Else-wide : Type 0
+Else-wide = lts.Else2 tie.the-claims reads.Pre reads.Post
 
 abbrev Else-t-ne16 : Type 0
 Else-t-ne16 = lts.Else3 tie.the-claims reads.Pre reads.Post
@@ -24,8 +24,8 @@ abbrev After-first_bad-found : Type 0
 After-first_bad-found = lts.After-first_bad tie.the-claims reads.Pre reads.Post
 
 -- ---- the tests, each where the code has passed it
-bits-ok : (c : Else-bits-gt20) → let b = c.args.bits in (leb 16 b && leb b 20) ≡ true
-bits-ok c = let b = c.args.bits in and-true (le-leb 16 b c.if-bits-lt16.false) (le-leb b 20 c.if-bits-gt20.false)
+bits-ok : (c : Else-wide) → let b = c.args.bits in (leb 16 b && leb b 20) ≡ true
+bits-ok c = let b = c.args.bits in and-true (le-leb 16 b c.if-bits-lt16.false) (le-leb b 20 c.if-wide.false)
 
 long : (c : Else-t-ne16) → eqb (length c.args.t.now) 16 ≡ true
 long c = eq-eqb _ _ c.if-t-ne16.false
@@ -39,11 +39,11 @@ pub returns-then-bits-lt16 : goal.returns-then-bits-lt16
 unfolding wht_verdict
 returns-then-bits-lt16 c = rw (lt-leb 16 c.args.bits c.if-bits-lt16.true) c.refusal.ensures
 
-pub returns-then-bits-gt20 : goal.returns-then-bits-gt20
+pub returns-then-wide : goal.returns-then-wide
 unfolding wht_verdict
-returns-then-bits-gt20 c =
+returns-then-wide c =
     let b = c.args.bits in
-    rw (le-leb 16 b c.if-bits-lt16.false, lt-leb b 20 c.if-bits-gt20.true) c.refusal-then-bits-gt20.ensures
+    rw (le-leb 16 b c.if-bits-lt16.false, lt-leb b 20 c.if-wide.true) c.refusal-then-wide.ensures
 
 pub returns-then-t-ne16 : goal.returns-then-t-ne16
 unfolding wht_verdict

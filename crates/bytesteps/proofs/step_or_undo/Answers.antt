@@ -58,16 +58,16 @@ module _ (c : Else-a-ne0) where
   reach : let s = c.before.before.before.before.before in s.args.row * s.args.stride + s.args.column + 3 * s.args.stride + 4 ≤ length s.args.plane.now
   reach = let s = c.before.before.before.before.before in fit_is (S s).at (length s.args.plane.now) good.fit
 
-pub returns-then-depth-ne8 : goal.returns-then-depth-ne8
-returns-then-depth-ne8 c =
+pub returns-then-deep : goal.returns-then-deep
+returns-then-deep c =
     let s = c.before.before.before in
-    rw (ne_eqb s.args.depth 8 c.if-depth-ne8.true) (ap (λ (a : Answer). (a, s.args.plane.now)) c.refusal.ensures)
+    rw (ne_eqb s.args.depth 8 c.if-deep.true) (ap (λ (a : Answer). (a, s.args.plane.now)) c.refusal.ensures)
 
 pub returns-then-a-ne0 : goal.returns-then-a-ne0
 returns-then-a-ne0 c =
     let j = c.before.before.before in
     let s = j.before.before.before in
-    rw (eq-eqb s.args.depth 8 j.if-depth-ne8.false)
+    rw (eq-eqb s.args.depth 8 j.if-deep.false)
     (ap (λ (l : List ℕ). (j.judge-a.result, l)) (sym (numbers-back s.args.plane.now))
     ∙ ap read_back (refused-call (F s) (sample s.args.depth) (spot (S s).at) (Wide s) (G s) (front-is j) c.if-a-ne0.true))
 
@@ -97,9 +97,9 @@ returns c =
     let s = j.before.before.before in
     let p = s.args.plane.now in
     let at = spot (S s).at in
-    rw (eq-eqb s.args.depth 8 j.if-depth-ne8.false)
+    rw (eq-eqb s.args.depth 8 j.if-deep.false)
     (b.gain.ensures
     ∙ ap (λ (l : List ℤ). ends (samples (sample 8) at (Wide s) (item l)) p (map nat_abs (gained at (item l) (Wide s)))) r.changes.ensures
-    ∙ ap (λ (d : ℕ). ends (samples (sample d) at (Wide s) (G s)) p (map nat_abs (gained at (G s) (Wide s)))) (sym j.if-depth-ne8.false)
+    ∙ ap (λ (d : ℕ). ends (samples (sample d) at (Wide s) (G s)) p (map nat_abs (gained at (G s) (Wide s)))) (sym j.if-deep.false)
     ∙ sym (read-ends (samples (sample s.args.depth) at (Wide s) (G s)) p (gained at (G s) (Wide s)))
     ∙ ap read_back (sym (passed-call (F s) (sample s.args.depth) at (Wide s) (G s) (same_number (front-is j) e.if-a-ne0.false))))

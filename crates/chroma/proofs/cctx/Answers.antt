@@ -22,8 +22,8 @@ After-turn_all = lts.After-turn_all tie.the-claims reads.Pre reads.Post tie.hand
 answer : (c : After-judge-a) → let s = c in c.judge-a.result ≡ verdict s.args.u.now s.args.v.now s.args.sina s.args.cosa s.args.bd
 answer c = let s = c in rw (to_z-of_z w32 s.args.sina s.ranges.sina, to_z-of_z w32 s.args.cosa s.ranges.cosa) at c.judge-a.ensures
 
-fine : (c : goal.Else-a-ne0) → let s = c in Accepted s.args.u.now s.args.v.now s.args.sina s.args.cosa s.args.bd
-fine c = accepted _ _ _ _ _ (ap (λ (a : Answer). a.number) (sym (answer c.before.before)) ∙ c.if-a-ne0.false)
+fine : (c : goal.Else-stops) → let s = c in Accepted s.args.u.now s.args.v.now s.args.sina s.args.cosa s.args.bd
+fine c = accepted _ _ _ _ _ (ap (λ (a : Answer). a.number) (sym (answer c.before.before)) ∙ c.if-stops.false)
 
 -- what the work leaves
 worked : (c : After-turn_all) → let s = c in (c.turn_all.new.u, c.turn_all.new.v) ≡ turned (low s.args.bd) (high s.args.bd) s.args.sina s.args.cosa s.args.u.now s.args.v.now
@@ -33,11 +33,11 @@ worked c =
     let s = c in
     rw (to_z-of_z w32 s.args.sina s.ranges.sina, to_z-of_z w32 s.args.cosa s.ranges.cosa, back l.low_end-lo.type_inv ∙ l.low_end-lo.ensures, back h.high_end-hi.type_inv ∙ h.high_end-hi.ensures) at c.turn_all.ensures
 
-pub returns-then-a-ne0 : goal.returns-then-a-ne0
+pub returns-then-stops : goal.returns-then-stops
 unfolding cctx_of
-returns-then-a-ne0 c =
+returns-then-stops c =
     let s = c in
-    rw (← answer c.before.before) (sym (kept c.judge-a.result (s.args.u.now, s.args.v.now) _ c.if-a-ne0.true))
+    rw (← answer c.before.before) (sym (kept c.judge-a.result (s.args.u.now, s.args.v.now) _ c.if-stops.true))
 
 pub overflow_add-bd : goal.overflow_add-bd
 overflow_add-bd c = omega (arith, (fine c).most)
@@ -63,4 +63,4 @@ unfolding cctx_of
 returns c =
     let e = c.before.before.before.before.before.before.before in
     let s = c in
-    rw (worked c.before.before, ← answer e.before.before) (sym (taken e.judge-a.result (s.args.u.now, s.args.v.now) (turned (low s.args.bd) (high s.args.bd) s.args.sina s.args.cosa s.args.u.now s.args.v.now) e.if-a-ne0.false))
+    rw (worked c.before.before, ← answer e.before.before) (sym (taken e.judge-a.result (s.args.u.now, s.args.v.now) (turned (low s.args.bd) (high s.args.bd) s.args.sina s.args.cosa s.args.u.now s.args.v.now) e.if-stops.false))

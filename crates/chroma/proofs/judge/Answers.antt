@@ -16,8 +16,8 @@ use Rattle.chroma.proofs.judge.Lts as lts
 use Rattle.chroma.proofs.judge.Reads as reads
 use Rattle.chroma.proofs.judge.Tie as tie
 
-abbrev Else-bd-gt12 : Type 0
-Else-bd-gt12 = lts.Else2 tie.the-claims reads.Pre reads.Post
+abbrev Else-deep : Type 0
+Else-deep = lts.Else2 tie.the-claims reads.Pre reads.Post
 
 abbrev Else-u-v : Type 0
 Else-u-v = lts.Else3 tie.the-claims reads.Pre reads.Post
@@ -41,8 +41,8 @@ abbrev Else-not-inside : Type 0
 Else-not-inside = lts.Else5 tie.the-claims reads.Pre reads.Post
 
 -- ---- the tests, each where the code has passed it
-depth-ok : (c : Else-bd-gt12) → let d = c.args.bd in (leb 8 d && leb d 12) ≡ true
-depth-ok c = let d = c.args.bd in and-true (le-leb 8 d c.if-bd-lt8.false) (le-leb d 12 c.if-bd-gt12.false)
+depth-ok : (c : Else-deep) → let d = c.args.bd in (leb 8 d && leb d 12) ≡ true
+depth-ok c = let d = c.args.bd in and-true (le-leb 8 d c.if-bd-lt8.false) (le-leb d 12 c.if-deep.false)
 
 same : (c : Else-u-v) → let s = c.before.before.before in eqb (length s.args.u.now) (length s.args.v.now) ≡ true
 same c = eq-eqb _ _ c.if-u-v.false
@@ -75,11 +75,11 @@ pub returns-then-bd-lt8 : goal.returns-then-bd-lt8
 unfolding verdict
 returns-then-bd-lt8 c = rw (lt-leb 8 c.args.bd c.if-bd-lt8.true) c.refusal.ensures
 
-pub returns-then-bd-gt12 : goal.returns-then-bd-gt12
+pub returns-then-deep : goal.returns-then-deep
 unfolding verdict
-returns-then-bd-gt12 c =
+returns-then-deep c =
     let d = c.args.bd in
-    rw (le-leb 8 d c.if-bd-lt8.false, lt-leb d 12 c.if-bd-gt12.true) c.refusal-then-bd-gt12.ensures
+    rw (le-leb 8 d c.if-bd-lt8.false, lt-leb d 12 c.if-deep.true) c.refusal-then-deep.ensures
 
 pub returns-then-u-v : goal.returns-then-u-v
 unfolding verdict

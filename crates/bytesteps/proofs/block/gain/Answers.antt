@@ -24,8 +24,8 @@ use Rattle.bytesteps.proofs.block.gain.Tie as tie
 abbrev Start : Type 0
 Start = lts.Start tie.the-claims reads.Pre reads.Post tie.handed_clauses
 
-abbrev Else-leaving-lt16 : Type 0
-Else-leaving-lt16 = lts.Else1 tie.the-claims reads.Pre reads.Post tie.handed_clauses
+abbrev Else-leaves : Type 0
+Else-leaves = lts.Else1 tie.the-claims reads.Pre reads.Post tie.handed_clauses
 
 -- the indices, the numbers, and the plane of the same values
 abbrev Cell : Start → ℕ → ℕ
@@ -38,24 +38,24 @@ abbrev Wide : Start → List ℤ
 Wide s = map pos s.args.plane.now
 
 -- no byte would leave
-later : (c : Else-leaving-lt16) → let s = c.before.before.before in (k : ℕ) → k < 16 → later_ok (sample 8) (Cell s) (Wide s) (G s) k ≡ true
-later c = let s = c.before.before.before in seek-passed (later_ok (sample 8) (Cell s) (Wide s) (G s)) 16 (omega (arith, c.first_leaving-leaving.ensures.value, c.if-leaving-lt16.false))
+later : (c : Else-leaves) → let s = c.before.before.before in (k : ℕ) → k < 16 → later_ok (sample 8) (Cell s) (Wide s) (G s) k ≡ true
+later c = let s = c.before.before.before in seek-passed (later_ok (sample 8) (Cell s) (Wide s) (G s)) 16 (omega (arith, c.first_leaving-leaving.ensures.value, c.if-leaves.false))
 
 pub first_leaving-leaving-requires : goal.first_leaving-leaving-requires
 first_leaving-leaving-requires c = (c.requires.0, c.requires.1)
 
 pub spot_of-requires : goal.spot_of-requires
-spot_of-requires c = let s = c in (c.if-leaving-lt16.true, omega (arith, s.requires.0, s.well_formed.0.0))
+spot_of-requires c = let s = c in (c.if-leaves.true, omega (arith, s.requires.0, s.well_formed.0.0))
 
-pub returns-then-leaving-lt16 : goal.returns-then-leaving-lt16
-returns-then-leaving-lt16 c =
+pub returns-then-leaves : goal.returns-then-leaves
+returns-then-leaves c =
     let p = c.before in
     let f = p.before.before in
     let s = f.before.before in
     ends-refused (
     c.refusal.ensures ∙ ap (refused 10 2) (p.spot_of.ensures ∙ ap (Cell s) f.first_leaving-leaving.ensures.value)
     ∙ sym (no-eight (Cell s) s.args.plane.now f.first_leaving-leaving.ensures.by_index (G s)
-    ∙ search-stops 10 2 16 (Cell s) (seek (later_ok (sample 8) (Cell s) (Wide s) (G s)) 0 16) done (omega (arith, f.first_leaving-leaving.ensures.value, p.if-leaving-lt16.true)))
+    ∙ search-stops 10 2 16 (Cell s) (seek (later_ok (sample 8) (Cell s) (Wide s) (G s)) 0 16) done (omega (arith, f.first_leaving-leaving.ensures.value, p.if-leaves.true)))
     ) s.args.plane.now (map nat_abs (gained (Cell s) (G s) (Wide s))) (λ e. omega (arith, ap (λ (a : Answer). a.number) c.refusal.ensures, e))
 
 pub add-requires : goal.add-requires

@@ -22,8 +22,8 @@ use Rattle.pixels.proofs.calls.add.Lts as lts
 use Rattle.pixels.proofs.calls.add.Reads as reads
 use Rattle.pixels.proofs.calls.add.Tie as tie
 
-abbrev Else-a-ne0 : Type 0
-Else-a-ne0 = lts.Else1 tie.the-claims reads.Pre reads.Post tie.handed_clauses
+abbrev Else-stops : Type 0
+Else-stops = lts.Else1 tie.the-claims reads.Pre reads.Post tie.handed_clauses
 
 -- what the block's writing asks
 abbrev Asked : ℕ → ℕ → ℕ → ℕ → List ℤ → List ℤ → Type 0
@@ -32,16 +32,16 @@ Asked w h stride depth dst work =
     × ((cut h * cut w ≤ length work) × Bounded 4096 (cut w) (cut h) (grid_of (cut w) work))
 
 -- the verdict is Done
-accepted : (c : Else-a-ne0) → Kinds c.args.tx c.args.txtp c.args.bd × Plane (w_of c.args.tx) (h_of c.args.tx) c.args.bd c.args.dst.now c.args.stride c.args.coeff.now
+accepted : (c : Else-stops) → Kinds c.args.tx c.args.txtp c.args.bd × Plane (w_of c.args.tx) (h_of c.args.tx) c.args.bd c.args.dst.now c.args.stride c.args.coeff.now
 accepted c =
-    add-passed c.args.form.strict c.args.dst.now c.args.stride c.args.coeff.now c.args.txtp c.args.tx c.args.bd (ap (λ (a : Answer). a.number) (sym c.judge_add-a.ensures) ∙ c.if-a-ne0.false)
+    add-passed c.args.form.strict c.args.dst.now c.args.stride c.args.coeff.now c.args.txtp c.args.tx c.args.bd (ap (λ (a : Answer). a.number) (sym c.judge_add-a.ensures) ∙ c.if-stops.false)
 
-pub returns-then-a-ne0 : goal.returns-then-a-ne0
+pub returns-then-stops : goal.returns-then-stops
 unfolding add_of
-returns-then-a-ne0 c =
+returns-then-stops c =
     let a = add_verdict c.args.form.strict c.args.dst.now c.args.stride c.args.coeff.now c.args.txtp c.args.tx c.args.bd in
     ap (λ (z : Answer). (z, c.args.dst.now)) c.judge_add-a.ensures
-    ∙ sym (kept a c.args.dst.now (added c.args.form.rowwise c.args.dst.now c.args.stride c.args.coeff.now c.args.txtp c.args.tx c.args.bd) (λ e. c.if-a-ne0.true (ap (λ (z : Answer). z.number) c.judge_add-a.ensures ∙ e)))
+    ∙ sym (kept a c.args.dst.now (added c.args.form.rowwise c.args.dst.now c.args.stride c.args.coeff.now c.args.txtp c.args.tx c.args.bd) (λ e. c.if-stops.true (ap (λ (z : Answer). z.number) c.judge_add-a.ensures ∙ e)))
 
 pub residuals-requires : goal.residuals-requires
 residuals-requires c = let p = accepted c.before in (p.0.size, ready p.0 p.1.fits.long p.1.all.coefficients, N.le_refl 1024)
@@ -74,4 +74,4 @@ returns c =
     (repeated w h (grid_of (cut w) c.residuals.new.work)) (residual_at c.args.form.rowwise c.args.tx c.args.txtp c.args.bd c.args.coeff.now)
     (residual-served c.args.form.rowwise c.args.tx c.args.txtp c.args.bd c.args.coeff.now c.residuals.new.work c.residuals.ensures (sides c.args.tx p.0.size)))
     ∙ ap (λ (q : Answer). (q, made)) c.judge_add-a.ensures
-    ∙ sym (taken a c.args.dst.now made (ap (λ (q : Answer). q.number) (sym c.judge_add-a.ensures) ∙ c.if-a-ne0.false))
+    ∙ sym (taken a c.args.dst.now made (ap (λ (q : Answer). q.number) (sym c.judge_add-a.ensures) ∙ c.if-stops.false))

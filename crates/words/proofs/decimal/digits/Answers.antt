@@ -9,7 +9,7 @@ use Rattle.words.proofs.Decimals.{digit-range, size_none, size-start, size_step,
 use Rattle.words.proofs.decimal.digits.Goals as goal
 
 -- the byte of this turn is a digit
-is_digit : (c : goal.Else-v-gt214748364) → digit (get_or c.args.line.now c.loop-i.i 0) ≡ true
+is_digit : (c : goal.Else-large) → digit (get_or c.args.line.now c.loop-i.i 0) ≡ true
 is_digit c = sym c.is_digit.ensures ∙ not-false _ c.if-not-is_digit.false-raw
 
 pub returns-then-to-from : goal.returns-then-to-from
@@ -24,8 +24,8 @@ pub returns-then-not-is_digit : goal.returns-then-not-is_digit
 returns-then-not-is_digit c =
     sym (c.loop-i.invariant.2 ∙ size-other c.args.line.now _ _ c.requires.1 c.loop-i-test.true _ (sym c.is_digit.ensures ∙ not-true _ c.if-not-is_digit.true-raw))
 
-pub returns-then-v-gt214748364 : goal.returns-then-v-gt214748364
-returns-then-v-gt214748364 c =
+pub returns-then-large : goal.returns-then-large
+returns-then-large c =
     sym (c.loop-i.invariant.2 ∙ size-large c.args.line.now _ _ c.requires.1 c.loop-i-test.true c.loop-i.v (omega arith))
 
 pub overflow_sub-v : goal.overflow_sub-v
