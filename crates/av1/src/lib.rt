@@ -1,13 +1,16 @@
 // The inverse DCT of AV1 (document 02, section 12), as a call on a lent slice.
 #![tactic(auto)]
 
-ghost use Rattle.std.specs.Prelude.{◌≡◌, ◌≤◌, length};
-ghost use Rattle.whole.specs.Search.{seek};
+ghost use Rattle.std.specs.Prelude.{◌≡◌};
+ghost use Rattle.answers.specs.Reasons.{verdict_of};
 ghost use Rattle.av1.specs.Tables.{length_ok};
-ghost use Rattle.av1.specs.Calls.{number_ok, front, dct_of};
+ghost use Rattle.av1.specs.Calls.{front, dct_of};
 
-use answers::Answer;
+use answers::{Answer, Reason, Slice};
+use ends::Ends;
 
+// The range of what fits a number of bits.
+pub mod ends;
 // Tables of the inverse DCT.
 pub mod tables;
 // One step of the inverse DCT, and the run of a table of steps.
@@ -19,56 +22,39 @@ pub mod dct;
 fn has_length(n: usize) -> bool
     ensures { result ≡ length_ok n }
 {
-    match n {
-        4 => true,
-        8 => true,
-        16 => true,
-        32 => true,
-        _ => n == 64,
-    }
-}
-
-// The index of the first number outside lo .. hi, or the length.
-pub fn first_bad(t: &[i32], lo: i32, hi: i32) -> usize
-    requires { length t.now ≤ 64 }
-    ensures { result ≡ seek (number_ok lo hi t.now) 0 (length t.now) }
-{
-    ranges::first_outside(t, 0, t.len(), t.len(), 1, lo, hi)
+    matches!(n, 4 | 8 | 16 | 32 | 64)
 }
 
 // The refusals of the inverse DCT that need no step.
-fn judge(n: usize, bits: u32, t: &[i32]) -> Answer
-    ensures { result ≡ front n bits t.now }
+fn judge(n: usize, bits: u32, t: &[i32]) -> Result<(), Reason>
+    ensures { verdict_of result ≡ front n bits t.now }
 {
-    if bits < 16 {
-        return answers::refusal(1, 0, 0);
-    }
-    let wide = 20 < bits;
-    if wide {
-        return answers::refusal(1, 0, 0);
+    if !(16..=20).contains(&bits) {
+        return Err(Reason::Depth);
     }
     if !has_length(n) {
-        return answers::refusal(2, 0, 0);
+        return Err(Reason::Size);
     }
     if t.len() != n {
-        return answers::refusal(6, 1, 0);
+        return Err(Reason::Length(Slice::Read));
     }
-    let found = first_bad(t, ranges::low_end(bits - 1), ranges::high_end(bits - 1));
-    if found < n {
-        return answers::refusal(15, 0, found);
+    match Ends::of_bits(bits).find_bad(t) {
+        Some(place) => Err(Reason::Between(place)),
+        None => Ok(()),
     }
-    answers::finished()
 }
 
-// The inverse DCT of n numbers, in their places; or a refusal, and nothing written.
+// The inverse DCT of n numbers, in their places; or why it is refused, and nothing written.
+fn inverse(n: usize, bits: u32, t: &mut [i32]) -> Result<(), Reason>
+    ensures { (verdict_of result, t.new) ≡ dct_of n bits t.old }
+{
+    judge(n, bits, t)?;
+    dct::by_length(n, t, Ends::of_bits(bits))
+}
+
+// The same, with an answer.
 pub fn av1_inv_dct(n: usize, bits: u32, t: &mut [i32]) -> Answer
     ensures { (result, t.new) ≡ dct_of n bits t.old }
 {
-    let a = judge(n, bits, t);
-    if a.number != 0 {
-        return a;
-    }
-    let lo = ranges::low_end(bits - 1);
-    let hi = ranges::high_end(bits - 1);
-    dct::by_length(n, t, lo, hi)
+    Answer::from(inverse(n, bits, t))
 }

@@ -2,30 +2,27 @@
 #![tactic(auto)]
 
 ghost use Rattle.std.specs.Prelude.{◌≡◌, ◌^◌, length};
+ghost use Rattle.answers.specs.Reasons.{verdict_of};
 ghost use Rattle.whole.specs.Sums.{Within};
 ghost use Rattle.av1_wht.specs.Wht.{quarters, wht_verdict, wht_of};
 
-use answers::Answer;
+use answers::{Answer, Reason, Slice};
+use av1::ends::Ends;
 
 // The refusals of the inverse WHT.
-fn judge(bits: u32, t: &[i32]) -> Answer
-    ensures { result ≡ wht_verdict bits t.now }
+fn judge(bits: u32, t: &[i32]) -> Result<(), Reason>
+    ensures { verdict_of result ≡ wht_verdict bits t.now }
 {
-    if bits < 16 {
-        return answers::refusal(1, 0, 0);
-    }
-    let wide = 20 < bits;
-    if wide {
-        return answers::refusal(1, 0, 0);
+    if !(16..=20).contains(&bits) {
+        return Err(Reason::Depth);
     }
     if t.len() != 16 {
-        return answers::refusal(6, 1, 0);
+        return Err(Reason::Length(Slice::Read));
     }
-    let found = av1::first_bad(t, ranges::low_end(bits - 1), ranges::high_end(bits - 1));
-    if found < 16 {
-        return answers::refusal(15, 0, found);
+    match Ends::of_bits(bits).find_bad(t) {
+        Some(place) => Err(Reason::Between(place)),
+        None => Ok(()),
     }
-    answers::finished()
 }
 
 // The sixteen numbers of t, each divided by 4 and rounded down.
@@ -33,23 +30,25 @@ fn divided(w: &mut [i32], t: &[i32])
     requires { (length w.old ≡ 16) × (length t.now ≡ 16) × Within (2 ^ 19) t.now }
     ensures { w.new ≡ quarters t.now }
 {
-    let mut i = 0;
-    while i < 16 {
-        w[i] = t[i] >> 2;
-        i += 1;
+    for (i, x) in w.iter_mut().enumerate() {
+        *x = t[i] >> 2;
     }
 }
 
-// The inverse WHT of four rows of four numbers, in their places; or a refusal, and nothing written.
+// The inverse WHT of four rows of four numbers, in their places; or why it is refused, and nothing written.
+fn inverse(bits: u32, t: &mut [i32]) -> Result<(), Reason>
+    ensures { (verdict_of result, t.new) ≡ wht_of bits t.old }
+{
+    judge(bits, t)?;
+    let mut w = [0; 16];
+    divided(&mut w, t);
+    wht::residuals(&w, t);
+    Ok(())
+}
+
+// The same, with an answer.
 pub fn av1_inv_wht4x4(bits: u32, t: &mut [i32]) -> Answer
     ensures { (result, t.new) ≡ wht_of bits t.old }
 {
-    let a = judge(bits, t);
-    if a.number != 0 {
-        return a;
-    }
-    let mut w = [0i32; 16];
-    divided(&mut w[..], t);
-    wht::residuals(&w[..], t);
-    a
+    Answer::from(inverse(bits, t))
 }

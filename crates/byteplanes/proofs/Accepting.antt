@@ -1,8 +1,8 @@
 -- The verdict of the call on bytes, taken apart. Assumes nothing.
---     Narrow, narrow-passed, -opens, -stays     refusals 1, 2 and 11: what an answer of Done tells, when they pass, that they don't depend on what follows
+--     Narrow, narrow-passed, -opens, -stays, -err     refusals 1, 2 and 11: what an answer of Done tells, when they pass, that they don't depend on what follows
 --     bytes-opens                               where refusals 1 to 4 and 11 pass, the rest is the verdict
---     Accepted, bytes-passed                    what a verdict of Done tells of the whole call
-use mathlib.Core.Path.{◌≡◌, refl, sym, ◌∙◌}
+--     Accepted, bytes-passed, bytes-done        what a verdict of Done tells of the whole call
+use mathlib.Core.Path.{◌≡◌, refl, sym, ap, ◌∙◌}
 use mathlib.Core.Bool.{Bool, ◌&&◌}
 use mathlib.Core.List.{List}
 use Prim.Native.Nat.{ℕ, ◌*◌, ◌≤◌}
@@ -12,8 +12,10 @@ use lib.IntN.{ℤ}
 use lib.ListN.{length}
 use Rattle.whole.proofs.Tests.{both}
 use Rattle.answers.specs.declared.Answer.{Answer}
+use Rattle.answers.specs.declared.Reason.{Reason}
 use Rattle.answers.specs.Answers.{done, refused}
-use Rattle.answers.proofs.Verdicts.{passed, stays}
+use Rattle.answers.specs.Reasons.{answer_of}
+use Rattle.answers.proofs.Verdicts.{passed, stays, refuses}
 use Rattle.tables.specs.Sizes.{cut, scaled}
 use Rattle.passes.specs.Passes.{Scalable}
 use Rattle.verdicts.specs.Verdicts.{w_of, h_of, on_plane, coefficients}
@@ -44,6 +46,10 @@ module _ (tx depth : ℕ) where
       stays (leb tx 24) (refused 2 0 0) _ _ r (λ r.
       stays (leb (w_of tx) 32 && leb (h_of tx) 32) (refused 11 0 0) done rest r (λ r. absurd (r refl)))))
 
+  -- a refusal by name stays what it is
+  pub narrow-err : (rest : Answer) (r : Reason) → answer_of r ≡ narrow tx depth done → answer_of r ≡ narrow tx depth rest
+  narrow-err rest r e = e ∙ narrow-stays rest (λ q. refuses r (ap (λ (a : Answer). a.number) e ∙ q))
+
 module _ (refuses : Bool) (room stride : ℕ) (cs : List ℤ) (txtp tx depth : ℕ) where
   -- refusals 5 to 7
   abbrev pub onward : Answer
@@ -67,3 +73,7 @@ module _ (refuses : Bool) (room stride : ℕ) (cs : List ℤ) (txtp tx depth : �
       let p = plane-passed (w_of tx) (h_of tx) room stride (length cs) (coefficients refuses (w_of tx) (h_of tx) depth cs done) k.1 in
       let c = coefficients-passed refuses (w_of tx) (h_of tx) depth cs done p.1 in
       record { narrow = n.0; kinds = k.0; fits = p.0; coefficients = coefficients-scalable refuses (w_of tx) (h_of tx) depth cs k.0.to c.0 }
+
+-- the same of a verdict that is Done
+pub bytes-done : (refuses : Bool) (room stride : ℕ) (cs : List ℤ) (txtp tx depth : ℕ) → done ≡ bytes_verdict refuses room stride cs txtp tx depth → Accepted refuses room stride cs txtp tx depth
+bytes-done refuses room stride cs txtp tx depth e = bytes-passed refuses room stride cs txtp tx depth (ap (λ (a : Answer). a.number) (sym e))

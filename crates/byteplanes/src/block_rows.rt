@@ -14,14 +14,13 @@ fn gained(p: u8, e: i32) -> u8
 }
 
 // Each byte of a row gains its residual.
+// Kept: beside gain_row of `pixels`, since bytes have a definition of their own and no residual serves two of them.
 fn gain_row(row: &mut [u8], e: &[i32])
     requires { Within 4096 e.now × (length row.old ≤ length e.now) }
     ensures { row.new ≡ tab (length row.old) (λ x. byte_of (get_or row.old x 0) (get_or e.now x (pos 0))) }
 {
-    let mut x = 0;
-    while x < row.len() {
+    for x in 0..row.len() {
         row[x] = gained(row[x], e[x]);
-        x += 1;
     }
 }
 
@@ -31,13 +30,9 @@ pub fn add_rows(dst: &mut [u8], stride: usize, work: &[i32], w: usize, h: usize)
     requires w_in_bounds { (h * w ≤ length work.now) × Bounded 4096 w h (grid_of w work.now) }
     ensures { dst.new ≡ tab (length dst.old) (λ i. cond (in_block stride w h i) (byte_of (get_or dst.old i 0) (grid_of w work.now (i / stride) (i % stride))) (get_or dst.old i 0)) }
 {
-    let mut y = 0;
-    while y < h {
+    for y in 0..h {
         let a = y * stride;
-        let b = a + w;
         let t = y * w;
-        let u = t + w;
-        gain_row(&mut dst[a..b], &work[t..u]);
-        y += 1;
+        gain_row(&mut dst[a..a + w], &work[t..t + w]);
     }
 }

@@ -20,13 +20,14 @@ pub fn add(
 ) -> Answer
     ensures { (result, dst.new) ≡ bytes_of (reading_of form) dst.old stride coeff.now txtp tx bd }
 {
-    let a = crate::judge::judge(dst.len(), stride, coeff, txtp, tx, bd, form.strict);
-    if a.number != 0 {
-        return a;
+    match crate::judge::judge(dst.len(), stride, coeff, txtp, tx, bd, form.strict) {
+        Err(reason) => Answer::from(reason),
+        Ok(()) => {
+            let mut work = [0i32; 1024];
+            pixels::calls::residuals(&mut work, coeff, txtp, tx, bd, form.lanes, form.rowwise);
+            let s = tables::size::size_of(tx);
+            crate::block_rows::add_rows(dst, stride, &work, s.w, s.h);
+            answers::finished()
+        }
     }
-    let mut work = [0i32; 1024];
-    pixels::calls::residuals(&mut work, coeff, txtp, tx, bd, form.lanes, form.rowwise);
-    let s = tables::size::size_of(tx);
-    crate::block_rows::add_rows(dst, stride, &work, s.w, s.h);
-    a
 }

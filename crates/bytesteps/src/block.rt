@@ -1,41 +1,40 @@
 // Refusal 10, by the block's bytes, and the bytes' gain. Four rows of four bytes, the rows stride apart, the first byte at start.
-ghost use Rattle.std.specs.Prelude.{◌≡◌, true, cond, map, ℕ, ◌+◌, ◌*◌, ◌≤◌, ◌<◌, pos, nat_abs, ◌+ℤ◌, length, get_or};
+ghost use Rattle.std.specs.Prelude.{◌≡◌, true, map, ℕ, ◌+◌, ◌*◌, ◌≤◌, ◌<◌, pos, nat_abs, ◌+ℤ◌, length, get_or};
 ghost use Rattle.whole.specs.Sums.{item};
 ghost use Rattle.answers.specs.Answers.{ends};
-ghost use Rattle.whole.specs.Search.{seek, cell_at};
+ghost use Rattle.answers.specs.Reasons.{verdict_of};
+ghost use Rattle.whole.specs.Search.{cell_at};
+ghost use Rattle.ranges.specs.Cells.{Finds};
 ghost use Rattle.octets.specs.Octets.{is_byte};
 ghost use Rattle.wht.specs.Calls.{Sixteen};
 ghost use Rattle.lossless.specs.Gains.{gained, later_ok, samples};
 ghost use Rattle.lossless.specs.Step.{sample};
 
-use answers::Answer;
+use answers::Reason;
 
-// The number k of a byte that would leave 0 .. 255 by its gain; otherwise what was found behind it.
-fn nearer(x: u8, e: i32, k: usize, found: usize) -> usize
+// Whether a byte with its gain is a byte again.
+fn stays(x: u8, e: i32) -> bool
     requires { nat_abs e ≤ 1048576 }
-    ensures { (result ≡ cond (is_byte (pos x +ℤ e)) found k) × (x ≤ 255) }
+    ensures { result ≡ is_byte (pos x +ℤ e) }
 {
     let z = octets::number(x) + e;
-    if ranges::inside(z, 0, 255) {
-        return found;
-    }
-    k
+    ranges::inside(z, 0, 255)
 }
 
-// The number of the first byte that would leave 0 .. 255, or 16. Every byte is read, from the last one on.
-fn first_leaving(plane: &[u8], gains: &[i32], start: usize, stride: usize) -> usize
+// The number of the first byte that would leave 0 .. 255.
+fn first_leaving(plane: &[u8], gains: &[i32], start: usize, stride: usize) -> Option<usize>
     requires { (start + 3 * stride + 4 ≤ length plane.now) × Sixteen 1048576 gains.now }
-    ensures value { result ≡ seek (later_ok (sample 8) (cell_at start stride 4) (map pos plane.now) (item gains.now)) 0 16 }
+    ensures value { Finds (later_ok (sample 8) (cell_at start stride 4) (map pos plane.now) (item gains.now)) 16 result }
     ensures by_index { (k : ℕ) → k < 16 → get_or plane.now (cell_at start stride 4 k) 0 ≤ 255 }
 {
-    let mut found = 16;
-    let mut k = 16;
-    while 0 < k {
-        k -= 1;
+    for k in 0..16 {
         let i = lossless::block::spot_of(start, stride, k);
-        found = nearer(plane[i], gains[k], k, found);
+        let leaves = !stays(plane[i], gains[k]);
+        if leaves {
+            return Some(k);
+        }
     }
-    found
+    None
 }
 
 // A byte with its gain.
@@ -54,25 +53,23 @@ fn add(plane: &mut [u8], gains: &[i32], start: usize, stride: usize)
     requires by_index { (k : ℕ) → k < 16 → later_ok (sample 8) (cell_at start stride 4) (map pos plane.old) (item gains.now) k ≡ true }
     ensures { plane.new ≡ map nat_abs (gained (cell_at start stride 4) (item gains.now) (map pos plane.old)) }
 {
-    let mut k = 0;
-    while k < 16 {
+    for k in 0..16 {
         let i = lossless::block::spot_of(start, stride, k);
         plane[i] = raised(plane[i], gains[k]);
-        k += 1;
     }
 }
 
 // The bytes of the block gain their numbers, or a refusal and nothing written.
-pub fn gain(plane: &mut [u8], gains: &[i32], start: usize, stride: usize) -> Answer
+pub fn gain(plane: &mut [u8], gains: &[i32], start: usize, stride: usize) -> Result<(), Reason>
     requires { (start + 3 * stride + 4 ≤ length plane.old) × Sixteen 1048576 gains.now × (4 ≤ stride) }
-    ensures { (result, plane.new) ≡ ends (samples (sample 8) (cell_at start stride 4) (map pos plane.old) (item gains.now)) plane.old
+    ensures { (verdict_of result, plane.new) ≡ ends (samples (sample 8) (cell_at start stride 4) (map pos plane.old) (item gains.now)) plane.old
         (map nat_abs (gained (cell_at start stride 4) (item gains.now) (map pos plane.old))) }
 {
-    let leaving = first_leaving(plane, gains, start, stride);
-    let leaves = leaving < 16;
-    if leaves {
-        return answers::refusal(10, 2, lossless::block::spot_of(start, stride, leaving));
+    match first_leaving(plane, gains, start, stride) {
+        Some(k) => Err(Reason::Leaving(lossless::block::spot_of(start, stride, k))),
+        None => {
+            add(plane, gains, start, stride);
+            Ok(())
+        }
     }
-    add(plane, gains, start, stride);
-    answers::finished()
 }

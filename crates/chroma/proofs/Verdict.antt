@@ -1,7 +1,7 @@
 -- What an answer of Done tells the work: no refusal applies, so the numbers have their sizes. Assumes nothing.
 --     Accepted     the depth, the lengths, and a bound on each number
---     accepted     a verdict of Done gives it
-use mathlib.Core.Path.{◌≡◌}
+--     accepted, accepted-done     a verdict of Done gives it
+use mathlib.Core.Path.{◌≡◌, sym, ap}
 use mathlib.Core.Bool.{true}
 use mathlib.Core.List.{List}
 use Prim.Native.Nat.{ℕ, ◌+◌, ◌^◌, ◌≤◌, ◌<◌}
@@ -18,6 +18,8 @@ use Rattle.whole.specs.Sums.{Within, item}
 use Rattle.whole.proofs.Range.{in-range-size, lowest-size, highest-size}
 use Rattle.whole.proofs.Search.{seek-passed}
 use Rattle.whole.proofs.Tests.{both}
+use Rattle.answers.specs.declared.Answer.{Answer}
+use Rattle.answers.specs.Answers.{done}
 use Rattle.answers.proofs.Verdicts.{passed, search-passed}
 use Rattle.chroma.specs.Chroma.{low, high, pair_ok, angle_ok, bad_of, first_bad, verdict}
 
@@ -60,3 +62,7 @@ accepted u v s c depth e =
       size-u = λ k h. pair_size depth (item u k) most (pair k h).0;
       size-v = λ k h. pair_size depth (item v k) most (pair k (omega arith)).1;
     }
+
+-- the same of a verdict that is Done
+pub accepted-done : {u v : List ℤ} {s c : ℤ} {depth : ℕ} → done ≡ verdict u v s c depth → Accepted u v s c depth
+accepted-done {u} {v} {s} {c} {depth} e = accepted u v s c depth (ap (λ (a : Answer). a.number) (sym e))

@@ -23,6 +23,18 @@ const U12: [i32; 8] = [524287, -524288, 524287, -524288, 0, 524287, 1, -1];
 
 const V12: [i32; 8] = [524287, 524287, -524288, -524288, -524288, 0, -1, 524287];
 
+// Angles by their sine and cosine.
+const ANGLES: [(i32, i32); 8] = [
+    (0, 256),
+    (256, 0),
+    (256, 256),
+    (-256, 256),
+    (-256, -256),
+    (181, 181),
+    (-98, 237),
+    (1, -1),
+];
+
 // One call, and what it leaves.
 fn run(
     rt: &impl Print,
@@ -37,16 +49,12 @@ fn run(
     line(rt, &v)
 }
 
-// The same pairs by eight angles.
+// The same pairs by each angle.
 fn turns(rt: &impl Print, u: [i32; 8], v: [i32; 8], bd: u32) -> io::Result<()> {
-    run(rt, u, v, 0, 256, bd)?;
-    run(rt, u, v, 256, 0, bd)?;
-    run(rt, u, v, 256, 256, bd)?;
-    run(rt, u, v, -256, 256, bd)?;
-    run(rt, u, v, -256, -256, bd)?;
-    run(rt, u, v, 181, 181, bd)?;
-    run(rt, u, v, -98, 237, bd)?;
-    run(rt, u, v, 1, -1, bd)
+    for (sina, cosa) in ANGLES {
+        run(rt, u, v, sina, cosa, bd)?;
+    }
+    Ok(())
 }
 
 fn main(rt: HostRuntime) -> io::Result<()> {

@@ -2,7 +2,8 @@
 --     three-forms      the passes with one lane, with four and with eight leave the same numbers
 --     idle-half        lines in records of eight: two work areas that agree on the lines leave the same numbers in them, so the idle half of a record reaches no result
 --     idle-untouched   and no number outside the lines is changed
---     pass-of-four, pass-of-eight    what the passes of four and of eight lines promise, which is one statement
+--     pass-of-lanes    what a pass promises, with any record of lanes
+--     pass-of-four, pass-of-eight    the same with records of four lanes and of eight
 --     line-by-line     a line's numbers after a pass depend on that line alone
 --     row-pass         what the row pass promises, with one lane, four or eight
 --     other-rows       two work areas that differ in one row alone differ in no other row after the row pass
@@ -15,6 +16,9 @@ use lib.IntN.{ℤ, pos}
 use lib.ListN.{get_or}
 use contract.Lifetimes.{Lfts}
 use denote.Triple.Clauses.{AtExit}
+use denote.RattleType.{RattleType}
+use denote.Param.Laws.{Laws, IsCopy}
+use mir.Syntax.{Dict}
 use borrow.Fn.Kinds.{Dens, ended_of}
 use Rattle.whole.specs.Grid.{grid_of, Same}
 use Rattle.tables.specs.Sizes.{cut}
@@ -26,10 +30,10 @@ use Rattle.groups.proofs.Alone as Abreast
 use Rattle.groups.proofs.Alone.{LinesLeft}
 use Rattle.passes.proofs.Alone as Alone
 use Rattle.passes.proofs.Alone.{RowsLeft, OtherRows}
-use Rattle.groups.proofs.fours.lane_pass.Kinds as fours-kinds
-use Rattle.groups.proofs.fours.lane_pass.Reads as fours
-use Rattle.groups.proofs.eights.lane_pass.Kinds as eights-kinds
-use Rattle.groups.proofs.eights.lane_pass.Reads as eights
+use Rattle.lanes.specs.declared.Lanes as Lanes
+use Rattle.std.specs.declared.clone.Clone as Clone
+use Rattle.groups.proofs.lane_pass.Kinds as pass-kinds
+use Rattle.groups.proofs.lane_pass.Reads as pass
 use Rattle.passes.proofs.block.rows.Kinds as rows_kinds
 use Rattle.passes.proofs.block.rows.Reads as rows
 
@@ -47,13 +51,18 @@ module _ (L m : ℕ) (K : List ℤ → List ℤ) (sp : ℕ → ℕ → ℕ) wher
   idle-untouched = Abreast.idle-kept L m K sp
 
 -- ---- a pass over count lines of m numbers
-pub pass-of-four : (κs : Lfts 1) (c : Dens κs fours-kinds.ps) (left : AtExit (ended_of 1 fours-kinds.ps fours-kinds.r) κs) → fours.Learnt κs c tt left
-    → LinesLeft c.1.0 c.1.1.0 c.1.1.1.0 c.1.1.1.1.0 (first_dense c.1.1.1.1.1.0 c.1.1.1.1.1.1.0 c.1.1.1.1.1.1.1.0) c.0.now left.0.now
-pass-of-four = Abreast.fours-left
+module _ (row : RattleType) (laws : Laws row) (copy : IsCopy row) (lanes : Lanes.Ghosts row.Denot) (lanes-dict : Dict) (clone : Clone.Ghosts row.Denot) (clone-dict : Dict) where
+  pub pass-of-lanes : (κs : Lfts 2) (c : Dens κs (pass-kinds.ps row laws copy)) (left : AtExit (ended_of 2 (pass-kinds.ps row laws copy) (pass-kinds.r row laws copy)) κs) → pass.Learnt row laws copy lanes lanes-dict clone clone-dict κs c tt left
+      → LinesLeft c.1.0 c.1.1.0 c.1.1.1.0 c.1.1.1.1.0 (first_dense c.1.1.1.1.1.0 c.1.1.1.1.1.1.0 c.1.1.1.1.1.1.1.0) c.0.now left.0.now
+  pass-of-lanes = Abreast.pass-left row laws copy lanes lanes-dict clone clone-dict
 
-pub pass-of-eight : (κs : Lfts 1) (c : Dens κs eights-kinds.ps) (left : AtExit (ended_of 1 eights-kinds.ps eights-kinds.r) κs) → eights.Learnt κs c tt left
-    → LinesLeft c.1.0 c.1.1.0 c.1.1.1.0 c.1.1.1.1.0 (first_dense c.1.1.1.1.1.0 c.1.1.1.1.1.1.0 c.1.1.1.1.1.1.1.0) c.0.now left.0.now
-pass-of-eight = Abreast.eights-left
+  pub pass-of-four : lanes.WIDTH ≡ 4 → (κs : Lfts 2) (c : Dens κs (pass-kinds.ps row laws copy)) (left : AtExit (ended_of 2 (pass-kinds.ps row laws copy) (pass-kinds.r row laws copy)) κs) → pass.Learnt row laws copy lanes lanes-dict clone clone-dict κs c tt left
+      → LinesLeft c.1.0 c.1.1.0 c.1.1.1.0 c.1.1.1.1.0 (first_dense c.1.1.1.1.1.0 c.1.1.1.1.1.1.0 c.1.1.1.1.1.1.1.0) c.0.now left.0.now
+  pass-of-four = Abreast.fours-left row laws copy lanes lanes-dict clone clone-dict
+
+  pub pass-of-eight : lanes.WIDTH ≡ 8 → (κs : Lfts 2) (c : Dens κs (pass-kinds.ps row laws copy)) (left : AtExit (ended_of 2 (pass-kinds.ps row laws copy) (pass-kinds.r row laws copy)) κs) → pass.Learnt row laws copy lanes lanes-dict clone clone-dict κs c tt left
+      → LinesLeft c.1.0 c.1.1.0 c.1.1.1.0 c.1.1.1.1.0 (first_dense c.1.1.1.1.1.0 c.1.1.1.1.1.1.0 c.1.1.1.1.1.1.1.0) c.0.now left.0.now
+  pass-of-eight = Abreast.eights-left row laws copy lanes lanes-dict clone clone-dict
 
 pub line-by-line : (count p s m : ℕ) (K : List ℤ → List ℤ) (t w u v : List ℤ) → LinesLeft count p s m K t u → LinesLeft count p s m K w v → (k : ℕ) → k < count
     → ((x : ℕ) → x < m → get_or t (k * s + x * p) (pos 0) ≡ get_or w (k * s + x * p) (pos 0)) → (x : ℕ) → x < m → get_or u (k * s + x * p) (pos 0) ≡ get_or v (k * s + x * p) (pos 0)

@@ -1,7 +1,7 @@
 // What glass writes on standard output: docs/GLASS.md has the words.
-//     say         the line of an event
+//     log         the lines of events
 //     picture     a plane as PGM
 #![tactic(auto)]
 
+pub mod log;
 pub mod picture;
-pub mod say;

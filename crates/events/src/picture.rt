@@ -1,57 +1,30 @@
 // A plane as a picture in plain PGM.
 ghost use Rattle.std.specs.Prelude.{◌*◌, ◌≤◌, ◌≡◌, length};
 
-use crate::say;
-use screen::plane::natural;
+use screen::Screen;
 use std::io;
 
 // The samples of a row, at most 14 to a line.
 fn row(rt: &impl Print, samples: &[i32]) -> io::Result<()> {
-    let mut at = 0;
-    while 14 < samples.len() - at {
-        let end = at + 14;
-        lines::line(rt, &samples[at..end])?;
-        at = end;
-    }
-    lines::line(rt, &samples[at..])
-}
-
-// The visible part of the lines of a plane.
-fn rows(
-    rt: &impl Print,
-    plane: &[i32],
-    stride: usize,
-    width: usize,
-    height: usize,
-) -> io::Result<()>
-    requires { (length plane.now ≡ stride * height) × (width ≤ stride) }
-{
-    let mut y = 0;
-    while y < height {
-        let a = y * stride;
-        let e = a + width;
-        row(rt, &plane[a..e])?;
-        y += 1;
+    for part in samples.chunks(14) {
+        lines::line(rt, part)?;
     }
     Ok(())
 }
 
-pub fn show(
-    rt: &impl Print,
-    plane: &[i32],
-    stride: usize,
-    width: usize,
-    height: usize,
-    depth: u32,
-) -> io::Result<()>
-    requires { (length plane.now ≡ stride * height) × (width ≤ stride) × (depth ≤ 12) }
+// The visible part of the lines of a plane.
+pub fn show(rt: &impl Print, plane: &[i32], s: Screen) -> io::Result<()>
+    requires { (length plane.now ≡ s.stride * s.height) × (s.width ≤ s.stride) × (s.depth ≤ 12) }
 {
-    say::text(rt, b"P2\n")?;
-    say::number(rt, width)?;
-    say::text(rt, b" ")?;
-    say::number(rt, height)?;
-    say::text(rt, b"\n")?;
-    say::number(rt, natural(ranges::high_end(depth)))?;
-    say::text(rt, b"\n")?;
-    rows(rt, plane, stride, width, height)
+    let high = ranges::high_end(s.depth);
+    let width = s.width;
+    let height = s.height;
+    println!(rt; "P2\n{width} {height}\n{high}")?;
+    // Kept: over `chunks_exact` it stayed open that a line is as long as the stride.
+    for y in 0..height {
+        let a = y * s.stride;
+        let e = a + width;
+        row(rt, &plane[a..e])?;
+    }
+    Ok(())
 }

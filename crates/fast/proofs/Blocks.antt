@@ -3,7 +3,7 @@
 --     seen-shown                    samples of depth 8 are not larger than 4,096
 --     ready-run                     the work area holds what the rows leave, and its dead rows are 0
 --     whole-block                   what the columns leave is the definition's; the clamp of a residual can't be seen
---     lent-clear                    arrays that are cleared, of a numbers for the groups and b for the lines and the results
+--     lent-clear                    arrays that are cleared, of W numbers for the groups and T for the lines and the results
 --     few-columns, more-columns     the room that one group takes, and two
 use mathlib.Core.Path.{◌≡◌, refl, sym, ap, ◌∙◌, subst}
 use mathlib.Core.Logic.{◌⊎◌, inl, inr}
@@ -14,7 +14,7 @@ use native.Mathlib.Nat as N
 use native.Mathlib.Omega.{arith}
 use lib.Dec.{lit≤}
 use lib.IntN.{ℤ, pos, nat_abs, ◌+ℤ◌}
-use lib.ListN.{length, get_or}
+use lib.ListN.{length, get_or, replicate}
 use Rattle.whole.specs.Numbers.{in_range, clamp, round_shift, lowest, highest}
 use Rattle.whole.specs.Sums.{tab}
 use Rattle.whole.specs.Grid.{cols_by, in_block}
@@ -30,7 +30,7 @@ use Rattle.narrow.specs.Painted.{Painted}
 use Rattle.narrow.proofs.Clamps.{unseen}
 use Rattle.narrow.proofs.Paints.{paint-same, paint-done}
 use Rattle.fast.specs.Groups.{cell_of, Area, Grouped, dct_of, after_rows}
-use Rattle.fast.specs.Gains.{gain_of, Side, d8, d16, d32, d64, twice, residual_by, gains_of, Shown, group_of, residual8, Narrow, Seen, Lent8, Ready8}
+use Rattle.fast.specs.Gains.{gain_of, Side, d8, d16, d32, d64, twice, residual_by, gains_of, Shown, group_of, residual8, Narrow, Seen, Lent8, Room8, Ready8}
 use Rattle.fast.proofs.Gained.{side-below, side-some}
 
 pub side-dense : {n : ℕ} → Side n → (xs : List ℤ) → dct_of (cut n) xs ≡ dense_of n 0 xs
@@ -155,7 +155,11 @@ module _ {A : Type 0} (d : A) (K : ℤ → A) (rowwise : Bool) {w h first : ℕ}
 
 -- ---- areas that are cleared
 abbrev pub zeros : ℕ → List ℤ
-zeros n = tab n (λ _. pos 0)
+zeros n = replicate n (pos 0)
+
+zero-count : (n : ℕ) → length (zeros n) ≡ n
+zero-count zero = refl
+zero-count (suc n) = ap suc (zero-count n)
 
 zero-at : (n i : ℕ) → get_or (zeros n) i (pos 0) ≡ pos 0
 zero-at zero i = refl
@@ -168,30 +172,30 @@ side_cut d16 = lit≤ tt
 side_cut d32 = lit≤ tt
 side_cut d64 = lit≤ tt
 
-pub lent-clear : (w h a b : ℕ) → cut w * 16 ≤ b → cut h * 16 ≤ b → ((q : ℕ) → 16 * q < cut w → (q * cut h + cut h) * 16 ≤ a) → Lent8 w h (zeros a) (zeros b) (zeros b)
-lent-clear w h a b p q r = record {
-  lines = omega (arith, length-tab b (λ _. pos 0));
-  results = omega (arith, length-tab b (λ _. pos 0));
-  others = omega (arith, length-tab b (λ _. pos 0));
-  area = λ k l. subst (λ (n : ℕ). (k * cut h + cut h) * 16 ≤ n) (sym (length-tab a (λ _. pos 0))) (r k l);
-  clear = zero-at a;
-  silent = zero-at b;
+pub lent-clear : {w h W T : ℕ} → Room8 w h W T → Lent8 w h (zeros W) (zeros T) (zeros T)
+lent-clear {w} {h} {W} {T} p = record {
+  lines = omega (arith, zero-count T, p.lines);
+  results = omega (arith, zero-count T, p.lines);
+  others = omega (arith, zero-count T, p.others);
+  area = λ k l. subst (λ (n : ℕ). (k * cut h + cut h) * 16 ≤ n) (sym (zero-count W)) (p.area k l);
+  clear = zero-at W;
+  silent = zero-at T;
 }
 
-pub few-columns : {w h : ℕ} (n : ℕ) → Side w → Side h → w ≤ n → h ≤ n → n ≤ 16 → Lent8 w h (zeros (n * 16)) (zeros (n * 16)) (zeros (n * 16))
+pub few-columns : {w h : ℕ} (n : ℕ) → Side w → Side h → w ≤ n → h ≤ n → n ≤ 16 → Room8 w h (n * 16) (n * 16)
 few-columns {w} {h} n s t a b c =
     let x : cut w ≤ n = N.le_trans (side_cut s) a in
     let y : cut h ≤ n = N.le_trans (side_cut t) b in
-    lent-clear w h (n * 16) (n * 16) (omega arith) (omega arith) (λ q l. subst (λ (z : ℕ). (z * cut h + cut h) * 16 ≤ n * 16) (sym (none q l x)) (omega arith))
+    record { lines = omega arith; others = omega arith; area = λ q l. subst (λ (z : ℕ). (z * cut h + cut h) * 16 ≤ n * 16) (sym (none q l x)) (omega arith); most = omega arith; each = omega arith }
   where
     none : (q : ℕ) → 16 * q < cut w → cut w ≤ n → q ≡ 0
     none q l x = omega arith
 
-pub more-columns : {w h : ℕ} → Side w → Side h → Lent8 w h (zeros 1024) (zeros 512) (zeros 512)
+pub more-columns : {w h : ℕ} → Side w → Side h → Room8 w h 1024 512
 more-columns {w} {h} s t =
     let x : cut w ≤ 32 = (side-fours s).1 in
     let y : cut h ≤ 32 = (side-fours t).1 in
-    lent-clear w h 1024 512 (omega arith) (omega arith) (λ q l. omega (arith, N.mul-le-mul_right (cut h) (one q l x)))
+    record { lines = omega arith; others = omega arith; area = λ q l. omega (arith, N.mul-le-mul_right (cut h) (one q l x)); most = omega arith; each = omega arith }
   where
     one : (q : ℕ) → 16 * q < cut w → cut w ≤ 32 → q ≤ 1
     one q l x = omega arith

@@ -8,6 +8,7 @@
 --     residual8, gained_by      the whole block: its residuals, and the plane that gains them
 --     Results, Ready8          what a group's columns leave, and the rows
 --     Narrow, Seen, Lent8      what the narrow passes ask of the coefficients, of the picture and of the areas that are lent to them
+--     Room8                    what they ask of the sizes of areas that are cleared for them
 use Rattle.std.specs.Prelude.{◌≡◌, Bool, true, cond, List, ℕ, ◌+◌, ◌*◌, ◌/◌, ◌%◌, ◌^◌, ◌≤◌, ◌<◌, leb, ℤ, pos, nat_abs, ◌+ℤ◌, length, get_or}
 use Rattle.whole.specs.Numbers.{in_range, clamp, round_shift, highest}
 use Rattle.whole.specs.Sums.{tab}
@@ -75,6 +76,14 @@ pub record Lent8 (w h : ℕ) (work t out : List ℤ) : Type 0 where
   pub area : Area (cut w) (cut h) work
   pub clear : (i : ℕ) → get_or work i (pos 0) ≡ pos 0
   pub silent : (i : ℕ) → get_or t i (pos 0) ≡ pos 0
+
+-- and of the sizes of areas that are cleared for it: W places for the groups of the block, T for the lines and their results
+pub record Room8 (w h W T : ℕ) : Type 0 where
+  pub lines : cut w * 16 ≤ T
+  pub others : cut h * 16 ≤ T
+  pub area : (q : ℕ) → 16 * q < cut w → (q * cut h + cut h) * 16 ≤ W
+  pub most : W ≤ 1024
+  pub each : T ≤ 512
 
 -- ---- what the stages leave
 -- the results of a group: number l of row r is C r l

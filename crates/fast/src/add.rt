@@ -1,6 +1,6 @@
 // A whole block at the start of a picture: the live part of the rows, then the columns. The areas are lent by size, since each is cleared.
 ghost use Rattle.std.specs.Prelude.{◌≡◌, ◌≤◌};
-ghost use Rattle.fast.specs.Gains.{residual8, gained_by, Narrow, Seen, Lent8};
+ghost use Rattle.fast.specs.Gains.{residual8, gained_by, Narrow, Seen, Lent8, Room8};
 
 // The block of w by h, with its areas lent.
 fn run(
@@ -29,8 +29,8 @@ fn run(
     );
 }
 
-// A block of 8 by 8.
-fn add_tiny(
+// The same, with areas of W places for the block and of T for sixteen lines and their results.
+fn add_in<const W: usize, const T: usize>(
     dst: &mut [i32],
     stride: usize,
     coeff: &[i32],
@@ -40,56 +40,12 @@ fn add_tiny(
     second: u32,
     rowwise: bool,
 )
-    requires { Narrow w h first coeff.now × (second ≤ 16) × Seen w h stride dst.old × (w ≤ 8) × (h ≤ 8) }
+    requires { Narrow w h first coeff.now × (second ≤ 16) × Seen w h stride dst.old × Room8 w h W T }
     ensures { dst.new ≡ gained_by w h (residual8 rowwise w h first second coeff.now) dst.old stride }
 {
-    let mut work = [0i16; 128];
-    let mut t = [0i16; 128];
-    let mut out = [0i32; 128];
-    run(
-        dst, stride, &mut work, &mut t, &mut out, coeff, w, h, first, second, rowwise,
-    );
-}
-
-// A block of at most 16 by 16.
-fn add_small(
-    dst: &mut [i32],
-    stride: usize,
-    coeff: &[i32],
-    w: usize,
-    h: usize,
-    first: u32,
-    second: u32,
-    rowwise: bool,
-)
-    requires { Narrow w h first coeff.now × (second ≤ 16) × Seen w h stride dst.old × (w ≤ 16) × (h ≤ 16) }
-    ensures { dst.new ≡ gained_by w h (residual8 rowwise w h first second coeff.now) dst.old stride }
-{
-    let mut work = [0i16; 256];
-    let mut t = [0i16; 256];
-    let mut out = [0i32; 256];
-    run(
-        dst, stride, &mut work, &mut t, &mut out, coeff, w, h, first, second, rowwise,
-    );
-}
-
-// A block of any size.
-fn add_large(
-    dst: &mut [i32],
-    stride: usize,
-    coeff: &[i32],
-    w: usize,
-    h: usize,
-    first: u32,
-    second: u32,
-    rowwise: bool,
-)
-    requires { Narrow w h first coeff.now × (second ≤ 16) × Seen w h stride dst.old }
-    ensures { dst.new ≡ gained_by w h (residual8 rowwise w h first second coeff.now) dst.old stride }
-{
-    let mut work = [0i16; 1024];
-    let mut t = [0i16; 512];
-    let mut out = [0i32; 512];
+    let mut work = [0i16; W];
+    let mut t = [0i16; T];
+    let mut out = [0i32; T];
     run(
         dst, stride, &mut work, &mut t, &mut out, coeff, w, h, first, second, rowwise,
     );
@@ -110,12 +66,10 @@ pub fn add(
     ensures { dst.new ≡ gained_by w h (residual8 rowwise w h first second coeff.now) dst.old stride }
 {
     if w <= 8 && h <= 8 {
-        add_tiny(dst, stride, coeff, w, h, first, second, rowwise);
+        add_in::<128, 128>(dst, stride, coeff, w, h, first, second, rowwise);
+    } else if w <= 16 && h <= 16 {
+        add_in::<256, 256>(dst, stride, coeff, w, h, first, second, rowwise);
     } else {
-        if w <= 16 && h <= 16 {
-            add_small(dst, stride, coeff, w, h, first, second, rowwise);
-        } else {
-            add_large(dst, stride, coeff, w, h, first, second, rowwise);
-        }
+        add_in::<1024, 512>(dst, stride, coeff, w, h, first, second, rowwise);
     }
 }

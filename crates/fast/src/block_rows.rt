@@ -20,13 +20,11 @@ fn load(
     requires by_index { (l x : ℕ) → l < k → x < live → (r * down + x * across + l * down < length coeff.now) × (scale ≡ true → scalable (get_or coeff.now (r * down + x * across + l * down) (pos 0)) ≡ true) }
     ensures { Loaded live k (λ l x. entry scale 8 (get_or coeff.now (r * down + x * across + l * down) (pos 0))) t.old t.new }
 {
-    let mut x = 0;
-    while x < live {
+    for x in 0..live {
         let a = x * 16;
         let e = a + k;
         let b = r * down + x * across;
         narrow::load_row(&mut t[a..e], coeff, b, down, scale);
-        x += 1;
     }
 }
 
@@ -58,13 +56,11 @@ fn turn(work: &mut [i16], out: &[i32], from: usize, p: usize, k: usize, c: usize
     requires by_index { (l m : ℕ) → l < k → m < c → (p + l + m * 16 < length out.now) × (nat_abs (get_or out.now (p + l + m * 16) (pos 0)) ≤ 2 ^ 30) }
     ensures { Painted (pos 0) from 16 c k (λ l m. settled_to 15 shift (get_or out.now (p + l + m * 16) (pos 0))) work.old work.new }
 {
-    let mut l = 0;
-    while l < k {
+    for l in 0..k {
         let a = from + l * 16;
         let e = a + c;
         let b = p + l;
         narrow::turn_row(&mut work[a..e], out, b, shift);
-        l += 1;
     }
 }
 
@@ -107,13 +103,6 @@ fn group(
     leave(work, out, sw, sh, r, k, shift);
 }
 
-// The lesser of two numbers.
-fn least(a: usize, b: usize) -> usize
-    ensures { (result ≤ a) × (result ≤ b) × (0 < a → 0 < b → 0 < result) }
-{
-    if a < b { a } else { b }
-}
-
 // The first rows of a block, sixteen at a time.
 pub fn rows(
     work: &mut [i16],
@@ -132,12 +121,10 @@ pub fn rows(
     requires sh_in_bounds { (sw * sh ≤ length coeff.now) × Scalable scale (sw * sh) coeff.now × Silent sw live t.old × Dry sw sh live (loaded rowwise scale 8 sw sh coeff.now) }
     ensures { Grouped sw sh 0 rows (after_rows sw shift (loaded rowwise scale 8 sw sh coeff.now)) work.old work.new }
 {
-    let mut r = 0;
-    while r < rows {
-        let k = least(16, rows - r);
+    for r in (0..rows).step_by(16) {
+        let k = (rows - r).min(16);
         group(
             work, t, out, coeff, sw, sh, live, r, k, shift, scale, rowwise,
         );
-        r += k;
     }
 }

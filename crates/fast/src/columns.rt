@@ -24,14 +24,12 @@ fn gain_rows(
     requires by_index { (y : ℕ) → y < h → ((y / 2 ^ down) * 16 + 16 ≤ length out.now) × ((l : ℕ) → l < 16 → nat_abs (line out.now l (y / 2 ^ down)) ≤ 2 ^ 30) }
     ensures { Painted (pos 0) from stride w h (gains_of dst.old from stride (residual_by shift across down (λ r x. line out.now x r))) dst.old dst.new }
 {
-    let mut y = 0;
-    while y < h {
+    for y in 0..h {
         let a = from + y * stride;
         let b = a + w;
         let r = y >> down;
         let e = narrow::row_of(out, r);
         narrow::gain_row(&mut dst[a..b], e, across, shift);
-        y += 1;
     }
 }
 

@@ -3,7 +3,7 @@ ghost use Rattle.std.specs.Prelude.{◌≡◌, true, ◌&&◌, cond, suc, ◌+�
 ghost use Rattle.whole.specs.Sums.{tab, item};
 ghost use Rattle.wht.specs.Wht.{fwht, iwht};
 ghost use Rattle.wht.specs.Calls.{Sixteen};
-ghost use Rattle.remain.specs.Remaining.{word as Remaining·word, mark, mark_at, levels_at, entries, put_mark, put_on};
+ghost use Rattle.remain.specs.Remaining.{word as Remaining·word, counted, mark, mark_at, levels_at, entries, put_mark, put_on};
 ghost use Rattle.remain.specs.Touch.{touches};
 ghost use Rattle.folding.specs.Fold.{is_zero, sizes, steps_folded, levels_folded};
 ghost use Rattle.folding.specs.Pass.{pass_fair, one_pass};
@@ -14,6 +14,7 @@ use remain::list;
 use remain::words::{shares, word};
 
 // The step that step j went into.
+// Kept: 4096 for a step that is gone (definition `owner` and record `Owned` of folding/specs/Owners.antt). An option for each of 4096 steps would double the lent memory.
 fn owner(o: &[u16], j: usize) -> usize
     requires { j < length o.now }
     ensures { result ≡ Owners·owner o.now j }
@@ -26,11 +27,8 @@ fn plus(a: &[i32], out: &mut [i32])
     requires { Sixteen 1048576 a.now × Sixteen 1048576 out.old }
     ensures { out.new ≡ tab 16 (λ k. item out.old k +ℤ item a.now k) }
 {
-    let mut k = 0;
-    while k < 16 {
-        let z = out[k] + a[k];
-        out[k] = z;
-        k += 1;
+    for (k, z) in out.iter_mut().enumerate() {
+        *z += a[k];
     }
 }
 
@@ -64,10 +62,8 @@ fn gather(l: &[i32], o: &[u16], h: usize, n: usize, out: &mut [i32])
     requires sums { Sums (Owners·owner o.now) l.now h n × (out.old ≡ tab 16 (λ _. pos 0)) }
     ensures { out.new ≡ sum_of (Owners·owner o.now) l.now n h }
 {
-    let mut j = 0;
-    while j < n {
+    for j in 0..n {
         member(l, o, h, n, j, out);
-        j += 1;
     }
 }
 
@@ -80,20 +76,17 @@ fn standing(s: &[u32], o: &[u16], row: usize, column: usize, j: usize) -> bool
     owner(o, j) == j && shares(row, column, word(s, b + 2), word(s, b + 3))
 }
 
-// The latest of the first n that does, counted from 1; 0 for none.
-fn partner(s: &[u32], o: &[u16], row: usize, column: usize, n: usize) -> usize
+// The latest of the first n that does.
+fn partner(s: &[u32], o: &[u16], row: usize, column: usize, n: usize) -> Option<usize>
     requires { (n ≤ 4096) × (length s.now ≡ 16385) × (length o.now ≡ 4096) }
-    ensures { result ≡ Owners·partner (Owners·owner o.now) s.now row column n }
+    ensures { counted result ≡ Owners·partner (Owners·owner o.now) s.now row column n }
 {
-    let mut i = n;
-    while 0 < i {
-        let j = i - 1;
-        if standing(s, o, row, column, j) {
-            return i;
+    for i in (0..n).rev() {
+        if standing(s, o, row, column, i) {
+            return Some(i);
         }
-        i = j;
     }
-    0
+    None
 }
 
 // Whether the steps i and j are on one block, at one depth.
@@ -114,7 +107,7 @@ fn in_size(g: &[i32], depth: u32) -> bool
 {
     let hi = ranges::high_end(depth);
     let lo = 0 - hi;
-    16 <= wht::first_bad(g, lo, hi)
+    wht::find_bad(g, lo, hi).is_none()
 }
 
 // Whether the sixteen numbers are 0.
@@ -122,7 +115,7 @@ fn is_zero(g: &[i32]) -> bool
     requires { length g.now ≡ 16 }
     ensures { result ≡ is_zero g.now }
 {
-    16 <= wht::first_bad(g, 0, 0)
+    wht::find_bad(g, 0, 0).is_none()
 }
 
 // Step i goes into step h; where their sum is 0, both are gone.
@@ -149,6 +142,7 @@ fn sum(l: &[i32], o: &[u16], i: usize, h: usize, out: &mut [i32])
 }
 
 // Step i goes into step h, its partner; false where their sum leaves its range.
+// Kept: a plain yes or no here and in the two below (record `Placed`): nothing goes with it, and the call has one refusal for it.
 fn join(s: &[u32], l: &[i32], i: usize, h: usize, o: &mut [u16]) -> bool
     requires listed { Listed s.now l.now (suc i) × Owned s.now l.now o.old i × (pass_fair (entries s.now l.now i) ≡ true) }
     requires h_lt_i { (h < i) × (Owners·partner (Owners·owner o.old) s.now (Remaining·word s.now i 2) (Remaining·word s.now i 3) i ≡ suc h) × (alike_at s.now i h ≡ true) }
@@ -170,12 +164,10 @@ fn place(s: &[u32], l: &[i32], i: usize, o: &mut [u16]) -> bool
     ensures { Placed s.now l.now o.new (suc i) result }
 {
     let b = 4 * i + 1;
-    let k = partner(s, o, word(s, b + 2), word(s, b + 3), i);
-    if k == 0 {
+    let Some(h) = partner(s, o, word(s, b + 2), word(s, b + 3), i) else {
         o[i] = i as u16;
         return true;
-    }
-    let h = k - 1;
+    };
     if !alike(s, i, h) {
         o[i] = i as u16;
         return true;
@@ -188,12 +180,10 @@ pub fn owners(s: &[u32], l: &[i32], n: usize, o: &mut [u16]) -> bool
     requires { Listed s.now l.now n × (length o.old ≡ 4096) }
     ensures { Placed s.now l.now o.new n result }
 {
-    let mut i = 0;
-    while i < n {
+    for i in 0..n {
         if !place(s, l, i, o) {
             return false;
         }
-        i += 1;
     }
     true
 }
@@ -253,10 +243,8 @@ pub fn put_back(s: &mut [u32], l: &mut [i32], o: &[u16], n: usize)
         × (l.new ≡ levels_folded (one_pass (entries s.old l.old n)) l.old) }
 {
     let mut m = 0;
-    let mut h = 0;
-    while h < n {
+    for h in 0..n {
         m = put_next(s, l, o, n, h, m);
-        h += 1;
     }
     s[0] = m as u32;
 }

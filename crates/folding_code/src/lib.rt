@@ -5,7 +5,9 @@ ghost use Rattle.std.specs.Prelude.{◌≡◌, length};
 ghost use Rattle.keeping.specs.Range.{area};
 ghost use Rattle.folding.specs.Fold.{three_of, fold_of};
 
-use answers::Answer;
+use answers::{Answer, Reason};
+use keeping::front;
+use keeping::front::Area;
 use remain::{cells, words};
 
 // Who goes into whom, and the folded list put in the place of the list.
@@ -24,24 +26,21 @@ pub fn history_fold(
     ensures { (result, three_of steps.new levels.new index.new)
         ≡ fold_of (area (length plane.now) stride width rows) steps.old levels.old index.old }
 {
-    let a = keeping::front::judge_kept(
-        plane.len(),
+    let area = Area {
+        size: plane.len(),
         stride,
         width,
         rows,
-        steps,
-        levels,
-        index.len(),
-    );
-    if a.number != 0 {
-        return a;
+    };
+    if let Err(reason) = front::judge_kept(area, steps, levels, index.len()) {
+        return Answer::from(reason);
     }
     let n = words::word(steps, 0);
     let mut o = [0u16; 4096];
     if !fold::owners(steps, levels, n, &mut o) {
-        return answers::refusal(12, 0, 0);
+        return Answer::from(Reason::History);
     }
     fold::put_back(steps, levels, &o, n);
     cells::rebuild(steps, width, rows, index);
-    a
+    answers::finished()
 }

@@ -1,4 +1,3 @@
--- Looks: a cell of the index, and planes that nowhere differ. Results: what holds of a result. Rooms: what a screen has of its rooms.
-mod Looks
+-- Results: what holds of a result. Rooms: what a screen has of its rooms.
 mod Results
 mod Rooms

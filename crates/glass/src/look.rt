@@ -3,155 +3,136 @@ ghost use Rattle.std.specs.Prelude.{◌≡◌, ◌+◌, ◌*◌, ◌≤◌, ◌<
 ghost use Rattle.remain.specs.Remaining.{count};
 ghost use Rattle.remain.specs.Touch.{across};
 ghost use Rattle.screen.specs.Planes.{Differ};
+ghost use Rattle.screen.specs.Commands.{LookFits};
 ghost use Rattle.past.specs.Commands.{Seen};
 
-use events::{picture, say};
-use past::step_number;
+use crate::commands::place_of;
+use events::log::{Ended, Log, Place};
+use events::picture;
 use remain::words::word;
+use screen::command::Look;
 use screen::plane::natural;
 use screen::{Screen, plane};
 use std::io;
 
+// The row and the column of sample d.
+fn place_in(s: Screen, d: usize) -> Place
+    requires { 0 < s.stride }
+{
+    Place {
+        row: d / s.stride,
+        column: d % s.stride,
+    }
+}
+
 // Says that two planes are the same.
-fn say_equal(rt: &impl Print, line: usize, words: &[u8], a: &[i32], b: &[i32]) -> io::Result<()>
+fn say_equal(log: &Log<'_, impl Print>, a: &[i32], b: &[i32]) -> io::Result<()>
     requires { a.now ≡ b.now }
 {
-    say::event(rt, line, words)
+    log.event(&"compare: equal")
 }
 
 // Says where two planes first differ.
 fn say_differ(
-    rt: &impl Print,
-    line: usize,
-    words: &[u8],
+    log: &Log<'_, impl Print>,
+    s: Screen,
     a: &[i32],
     b: &[i32],
     d: usize,
-    stride: usize,
 ) -> io::Result<()>
-    requires { (0 < stride) × (d < length a.now) × Differ d a.now b.now }
+    requires { (0 < s.stride) × (d < length a.now) × Differ d a.now b.now }
 {
-    say::at(rt, line, words, d / stride, d % stride)?;
-    say::text(rt, b"\n")
+    let place = place_in(s, d);
+    log.event(&format_args!("compare: first differs at {place}"))
 }
 
 // The screen, its pad too, against the kept copy.
-fn compare(
-    rt: &impl Print,
-    line: usize,
-    stride: usize,
-    plane: &[i32],
-    kept: &[i32],
-) -> io::Result<()>
-    requires { (0 < stride) × (length plane.now ≡ length kept.now) }
+fn compare(log: &Log<'_, impl Print>, s: Screen, plane: &[i32], kept: &[i32]) -> io::Result<()>
+    requires { (0 < s.stride) × (length plane.now ≡ length kept.now) }
 {
-    let first = plane::first_difference(plane, kept);
-    if first < plane.len() {
-        return say_differ(
-            rt,
-            line,
-            b"compare: first differs",
-            plane,
-            kept,
-            first,
-            stride,
-        );
+    match plane::first_difference(plane, kept) {
+        Some(first) => say_differ(log, s, plane, kept, first),
+        None => say_equal(log, plane, kept),
     }
-    say_equal(rt, line, b"compare: equal", plane, kept)
 }
 
 // Whether the pad is as it was at the start.
-fn pad(rt: &impl Print, line: usize, stride: usize, width: usize, plane: &[i32]) -> io::Result<()>
-    requires { 0 < stride }
+fn pad(log: &Log<'_, impl Print>, s: Screen, plane: &[i32]) -> io::Result<()>
+    requires { 0 < s.stride }
 {
-    let d = plane::first_touched(plane, stride, width);
-    if d < plane.len() {
-        say::at(rt, line, b"pad: first touched", d / stride, d % stride)?;
-        return say::text(rt, b"\n");
+    match s.first_touched(plane) {
+        Some(first) => {
+            let place = place_in(s, first);
+            log.event(&format_args!("pad: first touched at {place}"))
+        }
+        None => log.event(&"pad: untouched"),
     }
-    say::event(rt, line, b"pad: untouched")
 }
 
 // Whether the step of a number could be withdrawn.
 fn free(
-    rt: &impl Print,
-    line: usize,
+    log: &Log<'_, impl Print>,
     s: Screen,
-    z: i32,
+    number: u32,
     plane: &[i32],
     steps: &[u32],
     levels: &[i32],
     index: &[u32],
 ) -> io::Result<()> {
-    let number = step_number(z);
-    let r = history::history_can_withdraw(
+    let answer = history::history_can_withdraw(
         plane, s.stride, s.width, s.height, number, steps, levels, index,
     );
-    say::numbered(rt, line, b"free ", number as usize)?;
-    say::ended(rt, r, b": yes\n")
+    let ended = Ended {
+        answer,
+        done: "yes",
+    };
+    log.event(&format_args!("free {number}: {ended}"))
 }
 
 // The last step that touched the cell of a sample.
 fn who(
-    rt: &impl Print,
-    line: usize,
-    width: usize,
-    height: usize,
+    log: &Log<'_, impl Print>,
+    s: Screen,
     row: usize,
     column: usize,
     index: &[u32],
 ) -> io::Result<()>
-    requires { (row < height) × (column < width) × (height ≤ 256) × (width ≤ 256) × (length index.now ≡ across height * across width) }
+    requires { (row < s.height) × (column < s.width) × (length index.now ≡ across s.height * across s.width) }
 {
-    let w = (width + 3) / 4;
-    let k = word(index, row / 4 * w + column / 4);
-    say::at(rt, line, b"who", row, column)?;
+    let k = word(index, row / 4 * s.width.div_ceil(4) + column / 4);
+    let place = Place { row, column };
     if k == 0 {
-        return say::text(rt, b": none\n");
+        return log.event(&format_args!("who at {place}: none"));
     }
-    say::text(rt, b": step ")?;
-    say::number(rt, k)?;
-    say::text(rt, b"\n")
-}
-
-// A step that remains.
-fn list_step(rt: &impl Print, line: usize, steps: &[u32], i: usize) -> io::Result<()>
-    requires { (length steps.now ≡ 16385) × (i < 4096) }
-{
-    let b = 4 * i + 1;
-    say::numbered(rt, line, b"step ", word(steps, b))?;
-    say::place(rt, word(steps, b + 2), word(steps, b + 3))?;
-    say::text(rt, b"\n")
+    log.event(&format_args!("who at {place}: step {k}"))
 }
 
 // The steps that remain, oldest first.
-fn list_steps(rt: &impl Print, line: usize, steps: &[u32]) -> io::Result<()>
+fn list_steps(log: &Log<'_, impl Print>, steps: &[u32]) -> io::Result<()>
     requires { (length steps.now ≡ 16385) × (count steps.now ≤ 4096) }
 {
     let n = word(steps, 0);
-    say::numbered(rt, line, b"steps ", n)?;
-    say::text(rt, b"\n")?;
-    let mut i = 0;
-    while i < n {
-        list_step(rt, line, steps, i)?;
-        i += 1;
+    log.event(&format_args!("steps {n}"))?;
+    for i in 0..n {
+        let number = word(steps, 4 * i + 1);
+        let place = place_of(steps, i);
+        log.event(&format_args!("step {number} at {place}"))?;
     }
     Ok(())
 }
 
 // The screen as a picture.
-fn show(rt: &impl Print, line: usize, s: Screen, plane: &[i32]) -> io::Result<()>
+fn show(log: &Log<'_, impl Print>, s: Screen, plane: &[i32]) -> io::Result<()>
     requires { (length plane.now ≡ s.stride * s.height) × (s.width ≤ s.stride) × (s.depth ≤ 12) }
 {
-    say::event(rt, line, b"show")?;
-    picture::show(rt, plane, s.stride, s.width, s.height, s.depth)
+    log.event(&"show")?;
+    picture::show(log.rt, plane, s)
 }
 
 // A command that only looks.
 pub fn look(
-    rt: &impl Print,
-    line: usize,
-    command: u32,
+    log: &Log<'_, impl Print>,
+    look: Look,
     s: Screen,
     list: &[i32],
     plane: &[i32],
@@ -160,22 +141,17 @@ pub fn look(
     levels: &[i32],
     index: &[u32],
 ) -> io::Result<()>
-    requires { Seen command s list.now plane.now kept.now steps.now index.now }
+    requires { Seen s list.now plane.now kept.now steps.now index.now × LookFits look s list.now }
 {
-    match command {
-        8 => show(rt, line, s, plane),
-        9 => compare(rt, line, s.stride, plane, kept),
-        10 => pad(rt, line, s.stride, s.width, plane),
-        11 => free(rt, line, s, list[0], plane, steps, levels, index),
-        12 => who(
-            rt,
-            line,
-            s.width,
-            s.height,
-            natural(list[0]),
-            natural(list[1]),
-            index,
-        ),
-        _ => list_steps(rt, line, steps),
+    match look {
+        Look::Show => show(log, s, plane),
+        Look::Compare => compare(log, s, plane, kept),
+        Look::Pad => pad(log, s, plane),
+        Look::Free => {
+            let number = natural(list[0]) as u32;
+            free(log, s, number, plane, steps, levels, index)
+        }
+        Look::Who => who(log, s, natural(list[0]), natural(list[1]), index),
+        Look::Steps => list_steps(log, steps),
     }
 }

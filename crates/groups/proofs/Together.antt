@@ -1,17 +1,16 @@
 -- Lines that go through a kernel together, in records of any count: `at r k` is number k of the record r, and L lines lie at the places sp. Assumes nothing.
---     some, four-least, others, all-eight, four-only     there are four lines or eight
---     walk-far                        the second four of eight places
+--     walk-in                         a place of a record, as the code has it
+--     gathered-more                   a number more of a record that is gathered
 --     short, places-less              a side is at most 32; the places of fewer numbers
 --     first-front, live-left          lists with the same first live numbers, and what a kernel leaves of them
 --     GroupAsks, GroupGives           what a group of L lines is asked, and what it promises
 --     turn-places, turn-bound, turn-left     a turn of a pass: the places and the bound of the next L lines, and the pass after them
---     fours-on                        a count of lines stays a multiple of four
 --     through-asks, through-gives     live numbers of L lines that were gathered: what the kernel asks, and what stands there when they are put back
 use mathlib.Core.Path.{◌≡◌, sym, ap, ◌∙◌, subst}
-use mathlib.Core.Logic.{inl, inr}
+use mathlib.Core.Logic.{◌⊎◌, inl, inr}
 use mathlib.Core.Bool.{true}
 use mathlib.Core.List.{List}
-use Prim.Native.Nat.{ℕ, ◌+◌, ◌*◌, ◌%◌, ◌^◌, ◌≤◌, ◌<◌}
+use Prim.Native.Nat.{ℕ, ◌+◌, ◌*◌, ◌^◌, ◌≤◌, ◌<◌}
 use native.Mathlib.Nat as N
 use native.Mathlib.Omega.{arith}
 use lib.IntN.{ℤ, pos, nat_abs}
@@ -28,8 +27,8 @@ use Rattle.tables.specs.Sizes.{cut}
 use Rattle.tables.specs.Kinds.{has_kind}
 use Rattle.tables.specs.Dense.{first_of, dense_of, first_dense}
 use Rattle.tables.proofs.Kernels.{cut_most}
-use Rattle.tables.proofs.First.{first-is, first-in, first_out, first-length, first-within}
-use Rattle.groups.specs.Groups.{FourOrEight}
+use Rattle.whole.proofs.Cells.{under}
+use Rattle.tables.proofs.First.{past, first-is, first-in, first_out, first-length, first-within}
 
 pub places-less : {L m j n : ℕ} {sp : ℕ → ℕ → ℕ} → j ≤ m → Places L m sp n → Places L j sp n
 places-less h q = record { inside = λ k i a b. q.inside k i a (N.lt_of_lt_of_le b h); apart = λ k i l z a b c d e. q.apart k i l z a (N.lt_of_lt_of_le b h) c (N.lt_of_lt_of_le d h) e }
@@ -43,27 +42,18 @@ first-front live n xs f h e low =
 pub live-left : (n live w : ℕ) (f : ℕ → ℤ) (xs : List ℤ) → live ≤ w → length xs ≡ w → ((k : ℕ) → k < live → get_or xs k (pos 0) ≡ f k) → (code : ℕ) → first_dense n code live xs ≡ first_dense n code live (tab w f)
 live-left n live w f xs h long low code = ap (dense_of n code) (first-front live w xs f h long low)
 
-pub four-least : {n : ℕ} → FourOrEight n → 4 ≤ n
-four-least (inl e) = omega arith
-four-least (inr e) = omega arith
+pub walk-in : (q s k : ℕ) {n : ℕ} → walk q s k < n → q + k * s < n
+walk-in q s k {n} h = subst (λ (z : ℕ). z < n) (walk_is q s k) h
 
-pub some : {n : ℕ} → FourOrEight n → 0 < n
-some h = omega (arith, four-least h)
-
-pub others : {n : ℕ} → FourOrEight n → (n ≡ 8 → ⊥) → n ≡ 4
-others (inl e) h = e
-others (inr e) h = absurd (h e)
-
-pub all-eight : {n : ℕ} → FourOrEight n → 4 < n → n ≡ 8
-all-eight (inl e) h = absurd (omega arith)
-all-eight (inr e) h = e
-
-pub four-only : {n : ℕ} → FourOrEight n → n ≤ 4 → n ≡ 4
-four-only (inl e) h = e
-four-only (inr e) h = absurd (omega arith)
-
-pub walk-far : (q s k : ℕ) → walk (walk q s 4) s k ≡ walk q s (4 + k)
-walk-far q s k = walk_is (walk q s 4) s k ∙ omega (arith, walk_is q s 4, walk_is q s (4 + k), N.add-mul 4 k s)
+-- a number more of a record that is gathered: the others are as they were
+pub gathered-more : (f : ℕ → ℤ) {n j : ℕ} → (j ≡ n → ⊥) → get_or (tab n f) j (pos 0) ≡ get_or (tab (n + 1) f) j (pos 0)
+gathered-more f {n} {j} h = go (under n j)
+  where
+    go : ((n ≤ j) ⊎ (j < n)) → get_or (tab n f) j (pos 0) ≡ get_or (tab (n + 1) f) j (pos 0)
+    go (inl q) =
+        past (tab n f) j (subst (λ (m : ℕ). m ≤ j) (sym (length-tab n f)) q)
+        ∙ sym (past (tab (n + 1) f) j (subst (λ (m : ℕ). m ≤ j) (sym (length-tab (n + 1) f)) (omega arith)))
+    go (inr q) = tab-at (pos 0) n f j q ∙ sym (tab-at (pos 0) (n + 1) f j (omega arith))
 
 pub short : (n : ℕ) {m : ℕ} → cut n ≡ m → m ≤ 32
 short n e = subst (λ (k : ℕ). k ≤ 32) e (cut_most n)
@@ -112,10 +102,6 @@ GroupGives L m K sp t u =
     × ((z : ℕ) → ((k i : ℕ) → k < L → i < m → z ≡ sp k i → ⊥) → get_or u z (pos 0) ≡ get_or t z (pos 0))
 
 -- ---- a turn of a pass: the next L lines, from line i on
-pub fours-on : (line : ℕ) {lines : ℕ} → FourOrEight lines → line % 4 ≡ 0 → (line + lines) % 4 ≡ 0
-fours-on line (inl e) h = omega arith
-fours-on line (inr e) h = omega arith
-
 module _ (s p : ℕ) {m count : ℕ} {K : List ℤ → List ℤ} {w t : List ℤ} {i : ℕ} (inv : Lines (λ t k x. get_or t (k * s + x * p) (pos 0)) m count K w t i) (L : ℕ) (fit : i + L ≤ count) (all : Places count m (λ k x. k * s + x * p) (length w)) where
   pub turn-places : Places L m (spot (i * s) p s) (length t)
   turn-places = subst (λ (n : ℕ). Places L m (spot (i * s) p s) n) (sym inv.long) (group-places s p i fit all)

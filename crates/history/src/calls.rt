@@ -1,53 +1,31 @@
 // The samples of a call whose arguments and history are in range: the refusals 8 and 10, 14, and the work. s is the list of steps, l their levels.
 ghost use Rattle.std.specs.Prelude.{◌≡◌, ◌+◌, ◌*◌, ◌-◌, ◌≤◌, ◌<◌, length};
-ghost use Rattle.whole.specs.Sums.{item};
 ghost use Rattle.answers.specs.Answers.{done, refused, unless, ends};
-ghost use Rattle.whole.specs.Search.{cell_at};
+ghost use Rattle.answers.specs.Reasons.{verdict_of};
 ghost use Rattle.wht.specs.Calls.{Sixteen};
-ghost use Rattle.lossless.specs.Gains.{samples};
-ghost use Rattle.lossless.specs.Step.{sample};
 ghost use Rattle.remain.specs.Remaining.{count, word, levels_at, number_before, entry_at, marks, put_on, added_to};
 ghost use Rattle.remain.specs.Touch.{across, mended};
 ghost use Rattle.remain.specs.Without.{steps_without, levels_without};
 ghost use Rattle.keeping.specs.Range.{area, front_of};
-ghost use Rattle.history.specs.Calls.{lent, room, and_then, undoing, step_samples, stepped, taken_out, losses as Calls·losses};
+ghost use Rattle.history.specs.Calls.{lent, room, undoing, step_samples, stepped, taken_out, losses as Calls·losses};
 ghost use Rattle.history.specs.Bounds.{Writable, Undoable};
 
-use answers::Answer;
+use answers::Reason;
 use remain::{cells, list, words};
 
 // Refusal 14 where there is no room for another step.
-fn full(s: &[u32]) -> Answer
+fn full(s: &[u32]) -> Result<(), Reason>
     requires { (count s.now ≤ 4096) × (length s.now ≡ 16385) }
-    ensures { result ≡ unless (room s.now) (refused 14 0 0) done }
+    ensures { verdict_of result ≡ unless (room s.now) (refused 14 0 0) done }
 {
     let n = words::word(s, 0);
     if 4096 <= n {
-        return answers::refusal(14, 0, 0);
+        return Err(Reason::Full);
     }
     if 4294967295 <= words::number_before(s, n) {
-        return answers::refusal(14, 0, 0);
+        return Err(Reason::Full);
     }
-    answers::finished()
-}
-
-// The refusals 8 and 10 of samples that are to gain numbers; where none applies, another answer.
-fn judge(
-    plane: &[i32],
-    gains: &[i32],
-    depth: u32,
-    start: usize,
-    stride: usize,
-    rest: Answer,
-) -> Answer
-    requires { (depth ≤ 12) × (start + 3 * stride + 4 ≤ length plane.now) × Sixteen 1048576 gains.now }
-    ensures { result ≡ and_then (samples (sample depth) (cell_at start stride 4) plane.now (item gains.now)) rest }
-{
-    let a = lossless::block::judge(plane, gains, depth, start, stride);
-    if a.number != 0 {
-        return a;
-    }
-    rest
+    Ok(())
 }
 
 // One more step at the list's end, and its cells.
@@ -89,9 +67,9 @@ pub fn step(
     s: &mut [u32],
     l: &mut [i32],
     index: &mut [u32],
-) -> Answer
+) -> Result<(), Reason>
     requires { (front_of (area (length plane.old) stride width rows) depth row column level.now s.old l.old (length index.old)).number ≡ 0 }
-    ensures { (result, lent plane.new s.new l.new index.new)
+    ensures { (verdict_of result, lent plane.new s.new l.new index.new)
         ≡ ends (step_samples (area (length plane.old) stride width rows) depth row column level.now (lent plane.old s.old l.old index.old))
         (lent plane.old s.old l.old index.old)
         (stepped (area (length plane.old) stride width rows) depth row column level.now (lent plane.old s.old l.old index.old)) }
@@ -99,13 +77,11 @@ pub fn step(
     let start = row * stride + column;
     let mut gains = [0i32; 16];
     lossless::changes(level, false, &mut gains);
-    let a = judge(plane, &gains, depth, start, stride, full(s));
-    if a.number != 0 {
-        return a;
-    }
+    lossless::block::judge(plane, &gains, depth, start, stride)?;
+    full(s)?;
     lossless::block::add(plane, &gains, start, stride);
     append(depth, width, rows, row, column, level, s, l, index);
-    a
+    Ok(())
 }
 
 // Step i is taken out of the list, and its cells computed anew.
@@ -142,9 +118,9 @@ fn start_of(s: &[u32], stride: usize, i: usize) -> usize
 }
 
 // The refusals 8 and 10 of the undo of step i.
-pub fn judge_out(plane: &[i32], stride: usize, i: usize, s: &[u32], l: &[i32]) -> Answer
+pub fn judge_out(plane: &[i32], stride: usize, i: usize, s: &[u32], l: &[i32]) -> Result<(), Reason>
     requires { Undoable plane.now stride s.now l.now i }
-    ensures { result ≡ undoing stride plane.now (entry_at s.now l.now i) }
+    ensures { verdict_of result ≡ undoing stride plane.now (entry_at s.now l.now i) }
 {
     let start = start_of(s, stride, i);
     let depth = s[4 * i + 2];

@@ -3,12 +3,15 @@
 // number of the latest remaining step that shares a sample with it. All zero is the empty history.
 #![tactic(auto)]
 
-ghost use Rattle.std.specs.Prelude.{◌≡◌, length};
+ghost use Rattle.std.specs.Prelude.{◌≡◌, ◌-◌, IfOk, length};
+ghost use Rattle.remain.specs.Remaining.{count};
 ghost use Rattle.keeping.specs.Range.{area};
-ghost use Rattle.history.specs.Calls.{lent, step_of, undo_verdict, undo_of, withdraw_verdict, withdraw_of, rebuild_of};
+ghost use Rattle.history.specs.Calls.{lent, step_of, undo_verdict, undo_of, withdraw_verdict, withdraw_of, spot_of, rebuild_of};
+ghost use Rattle.history.specs.Bounds.{judged};
 
-use answers::Answer;
+use answers::{Answer, Reason};
 use keeping::front;
+use keeping::front::Area;
 use remain::{cells, words};
 
 // The samples: 8, 10, 14, and the work.
@@ -31,28 +34,21 @@ pub fn history_step(
     ensures { (result, lent plane.new steps.new levels.new index.new)
         ≡ step_of (area (length plane.old) stride width rows) depth row column level.now (lent plane.old steps.old levels.old index.old) }
 {
-    let a = front::judge_step(
-        plane.len(),
-        depth,
+    let area = Area {
+        size: plane.len(),
         stride,
         width,
         rows,
-        row,
-        column,
-        level,
-        steps,
-        levels,
-        index.len(),
-    );
-    if a.number != 0 {
-        return a;
+    };
+    match front::judge_step(area, depth, row, column, level, steps, levels, index.len()) {
+        Err(reason) => Answer::from(reason),
+        Ok(()) => Answer::from(calls::step(
+            depth, plane, stride, width, rows, row, column, level, steps, levels, index,
+        )),
     }
-    calls::step(
-        depth, plane, stride, width, rows, row, column, level, steps, levels, index,
-    )
 }
 
-// The refusals 5, 12, 13, 8 and 10 of an undo of the newest.
+// The refusals 5, 12, 13, 8 and 10 of an undo of the newest; otherwise its place in the list.
 fn judge_undo(
     plane: &[i32],
     stride: usize,
@@ -61,18 +57,24 @@ fn judge_undo(
     steps: &[u32],
     levels: &[i32],
     index: &[u32],
-) -> Answer
-    ensures { result ≡ undo_verdict (area (length plane.now) stride width rows) (lent plane.now steps.now levels.now index.now) }
+) -> Result<usize, Reason>
+    ensures verdict { judged result ≡ undo_verdict (area (length plane.now) stride width rows) (lent plane.now steps.now levels.now index.now) }
+    ensures place { IfOk result (λ i. i ≡ count steps.now - 1) }
 {
-    let a = front::judge_kept(plane.len(), stride, width, rows, steps, levels, index.len());
-    if a.number != 0 {
-        return a;
-    }
+    let area = Area {
+        size: plane.len(),
+        stride,
+        width,
+        rows,
+    };
+    front::judge_kept(area, steps, levels, index.len())?;
     let n = words::word(steps, 0);
     if n == 0 {
-        return answers::refusal(13, 0, 0);
+        return Err(Reason::Step(0));
     }
-    calls::judge_out(plane, stride, n - 1, steps, levels)
+    let i = n - 1;
+    calls::judge_out(plane, stride, i, steps, levels)?;
+    Ok(i)
 }
 
 // The newest remaining step, undone.
@@ -88,13 +90,43 @@ pub fn history_undo(
     ensures { (result, lent plane.new steps.new levels.new index.new)
         ≡ undo_of (area (length plane.old) stride width rows) (lent plane.old steps.old levels.old index.old) }
 {
-    let a = judge_undo(plane, stride, width, rows, steps, levels, index);
-    if a.number != 0 {
-        return a;
+    match judge_undo(plane, stride, width, rows, steps, levels, index) {
+        Err(reason) => Answer::from(reason),
+        Ok(i) => {
+            calls::take_out(plane, stride, width, rows, i, steps, levels, index);
+            answers::finished()
+        }
     }
+}
+
+// The refusals 5, 12, 13, 8 and 10 of a withdrawal, and 13 again; otherwise the step's place in the list.
+fn judge_withdraw(
+    plane: &[i32],
+    stride: usize,
+    width: usize,
+    rows: usize,
+    number: u32,
+    steps: &[u32],
+    levels: &[i32],
+    index: &[u32],
+) -> Result<usize, Reason>
+    ensures verdict { judged result ≡ withdraw_verdict (area (length plane.now) stride width rows) number (lent plane.now steps.now levels.now index.now) }
+    ensures place { IfOk result (λ i. i ≡ spot_of steps.now number) }
+{
+    let area = Area {
+        size: plane.len(),
+        stride,
+        width,
+        rows,
+    };
+    front::judge_kept(area, steps, levels, index.len())?;
     let n = words::word(steps, 0);
-    calls::take_out(plane, stride, width, rows, n - 1, steps, levels, index);
-    a
+    let Some(i) = words::found(steps, number, n) else {
+        return Err(Reason::Step(number as usize));
+    };
+    calls::judge_out(plane, stride, i, steps, levels)?;
+    words::overlapped(steps, i, number)?;
+    Ok(i)
 }
 
 // What a withdrawal of the remaining step with a number would answer.
@@ -110,21 +142,10 @@ pub fn history_can_withdraw(
 ) -> Answer
     ensures { result ≡ withdraw_verdict (area (length plane.now) stride width rows) number (lent plane.now steps.now levels.now index.now) }
 {
-    let a = front::judge_kept(plane.len(), stride, width, rows, steps, levels, index.len());
-    if a.number != 0 {
-        return a;
+    match judge_withdraw(plane, stride, width, rows, number, steps, levels, index) {
+        Err(reason) => Answer::from(reason),
+        Ok(_) => answers::finished(),
     }
-    let n = words::word(steps, 0);
-    let k = words::found(steps, number, n);
-    if k == 0 {
-        return answers::refusal(13, 0, number as usize);
-    }
-    let i = k - 1;
-    let b = calls::judge_out(plane, stride, i, steps, levels);
-    if b.number != 0 {
-        return b;
-    }
-    words::overlapped(steps, i, number)
 }
 
 // The remaining step with a number, undone.
@@ -141,14 +162,13 @@ pub fn history_withdraw(
     ensures { (result, lent plane.new steps.new levels.new index.new)
         ≡ withdraw_of (area (length plane.old) stride width rows) number (lent plane.old steps.old levels.old index.old) }
 {
-    let a = history_can_withdraw(plane, stride, width, rows, number, steps, levels, index);
-    if a.number != 0 {
-        return a;
+    match judge_withdraw(plane, stride, width, rows, number, steps, levels, index) {
+        Err(reason) => Answer::from(reason),
+        Ok(i) => {
+            calls::take_out(plane, stride, width, rows, i, steps, levels, index);
+            answers::finished()
+        }
     }
-    let n = words::word(steps, 0);
-    let k = words::found(steps, number, n);
-    calls::take_out(plane, stride, width, rows, k - 1, steps, levels, index);
-    a
 }
 
 // The whole index, from the list.
@@ -163,10 +183,17 @@ pub fn history_rebuild(
 ) -> Answer
     ensures { (result, index.new) ≡ rebuild_of (area (length plane.now) stride width rows) steps.now levels.now index.old }
 {
-    let a = front::judge_kept(plane.len(), stride, width, rows, steps, levels, index.len());
-    if a.number != 0 {
-        return a;
+    let area = Area {
+        size: plane.len(),
+        stride,
+        width,
+        rows,
+    };
+    match front::judge_kept(area, steps, levels, index.len()) {
+        Err(reason) => Answer::from(reason),
+        Ok(()) => {
+            cells::rebuild(steps, width, rows, index);
+            answers::finished()
+        }
     }
-    cells::rebuild(steps, width, rows, index);
-    a
 }

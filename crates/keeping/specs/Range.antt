@@ -1,5 +1,6 @@
 -- A history in range, and the refusals 1, 5, 6, 12 and 7 by the arguments alone. Definitions only; from document 02, section 9.
 --     Area                  the plane's length, the stride, the visible width and the count of visible rows: what all calls of one history name
+--     area_of a             that, as the code has it
 --     shaped a              the tests of 5: stride 4 to 65,536, width 4 to the stride, rows 4 to 65,536
 --     stands a r c          the test of 6: a step alone would fit there, and the block lies in the visible rows
 --     entry_ok a s l i       entry i is in range: depth, place, levels, and a number above the one before it, which is 0 for the first
@@ -12,6 +13,7 @@ use Rattle.answers.specs.Answers.{done, refused, unless, searched}
 use Rattle.whole.specs.Search.{seek}
 use Rattle.wht.specs.Calls.{number_ok}
 use Rattle.lossless.specs.Step.{place, fits}
+use Rattle.keeping.specs.declared.front.Area as front
 use Rattle.remain.specs.Remaining.{count, number_at, word, levels_at, number_before}
 use Rattle.remain.specs.Touch.{across}
 
@@ -23,6 +25,9 @@ pub record Area : Type 0 where
 
 abbrev pub area : ℕ → ℕ → ℕ → ℕ → Area
 area n t w h = record { size = n; stride = t; width = w; rows = h }
+
+abbrev pub area_of : front.Area → Area
+area_of a = area a.size a.stride a.width a.rows
 
 abbrev pub within : ℕ → ℕ → ℕ → Bool
 within lo hi n = leb lo n && leb n hi

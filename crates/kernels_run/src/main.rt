@@ -41,10 +41,8 @@ fn fill(c: &mut [i32], p: usize)
     requires { length c.old ≤ 32 }
     ensures { Within (2 ^ 19) c.new }
 {
-    let mut i = 0;
-    while i < c.len() {
-        c[i] = number(p, i);
-        i += 1;
+    for (i, x) in c.iter_mut().enumerate() {
+        *x = number(p, i);
     }
 }
 
@@ -71,10 +69,8 @@ fn lists(rt: &impl Print, n: usize, code: usize) -> io::Result<()>
     let m = cut_of(n);
     let mut c = [0i32; 32];
     let part = &mut c[..m];
-    let mut p = 0;
-    while p < 6 {
+    for p in 0..6 {
         run(rt, part, n, code, p, m)?;
-        p += 1;
     }
     Ok(())
 }
@@ -86,10 +82,8 @@ fn counts(rt: &impl Print, n: usize, code: usize) -> io::Result<()>
     let m = cut_of(n);
     let mut c = [0i32; 32];
     let part = &mut c[..m];
-    let mut live = 0;
-    while live < m {
+    for live in 0..m {
         run(rt, part, n, code, 5, live)?;
-        live += 1;
     }
     Ok(())
 }
@@ -98,11 +92,9 @@ fn counts(rt: &impl Print, n: usize, code: usize) -> io::Result<()>
 fn kinds(rt: &impl Print, n: usize, count: usize) -> io::Result<()>
     requires { (k : ℕ) → k < count → has_kind n k ≡ true }
 {
-    let mut code = 0;
-    while code < count {
+    for code in 0..count {
         lists(rt, n, code)?;
         counts(rt, n, code)?;
-        code += 1;
     }
     Ok(())
 }

@@ -3,19 +3,25 @@
 --     prod-fits, sum_fits          a product with a weight fits, and a number with such a product added
 --     both-fit, less-fit           a sum and a difference of two such numbers
 --     within-front                 the first numbers of a list within a bound
+--     head-small                   the numbers of a head are bytes
 use mathlib.Core.Path.{◌≡◌, sym, ap, ◌∙◌, subst}
-use mathlib.Core.List.{List}
-use Prim.Native.Nat.{ℕ, ◌^◌, ◌≤◌}
+use mathlib.Core.Logic.{inl, inr}
+use mathlib.Core.Bool.{Bool, true, ◌&&◌}
+use mathlib.Core.List.{List, [], ◌∷◌}
+use Prim.Native.Nat.{ℕ, zero, suc, ◌^◌, ◌≤◌, zero-le}
 use native.Mathlib.Nat as N
 use native.Mathlib.Omega.{arith}
 use lib.IntN.{ℤ, pos, nat_abs, ◌+ℤ◌, ◌-ℤ◌, ◌*ℤ◌}
-use lib.ListN.{length, take, length-take}
+use lib.Dec.{T, leb, leb→le}
+use lib.ListN.{length, get_or, take, length-take}
 use lib.Seq.{get_or-take}
 use mir.Syntax.{w32}
 use mir.Val.{SFits}
 use Rattle.whole.specs.Sums.{Within}
 use Rattle.whole.proofs.Size.{abs-add, abs-sub, abs-mul, fits-size}
+use Rattle.whole.proofs.Tests.{and_left, and_right}
 use Rattle.whole.proofs.Sums.{within_all}
+use Rattle.tables.specs.Head.{head8, head16, head32, HeadTable}
 
 module _ (x u : ℤ) (p : nat_abs x ≤ 2 ^ 19) (q : nat_abs u ≤ 128) where
   pub prod-size : nat_abs (x *ℤ u) ≤ 2 ^ 26
@@ -41,3 +47,18 @@ module _ {a d x y : ℤ} (e : a ≡ x) (f : d ≡ y) (p : nat_abs x ≤ 2 ^ 27) 
 pub within-front : (n b : ℕ) (xs : List ℤ) → Within b xs → Within b (take n xs)
 within-front n b xs h k l =
     subst (λ (z : ℤ). nat_abs z ≤ b) (sym (get_or-take n xs k (pos 0) (N.lt_of_lt_of_le l (subst (λ (m : ℕ). m ≤ n) (sym (length-take n xs)) (N.min-le_left n (length xs)))))) (within_all b xs h k)
+
+-- ---- the numbers of a head
+abbrev small_all : List ℤ → Bool
+small_all [] = true
+small_all (x ∷ xs) = leb (nat_abs x) 128 && small_all xs
+
+small_at : (t : List ℤ) → T (small_all t) → (j : ℕ) → nat_abs (get_or t j (pos 0)) ≤ 128
+small_at [] h j = zero-le
+small_at (x ∷ xs) h zero = leb→le (nat_abs x) 128 (and_left (leb (nat_abs x) 128) (small_all xs) h)
+small_at (x ∷ xs) h (suc j) = small_at xs (and_right (leb (nat_abs x) 128) (small_all xs) h) j
+
+pub head-small : {h : ℕ} {t : List ℤ} → HeadTable h t → (j : ℕ) → nat_abs (get_or t j (pos 0)) ≤ 128
+head-small (inl p) j = subst (λ (t : List ℤ). nat_abs (get_or t j (pos 0)) ≤ 128) (sym p.1) (small_at head8 tt j)
+head-small (inr (inl p)) j = subst (λ (t : List ℤ). nat_abs (get_or t j (pos 0)) ≤ 128) (sym p.1) (small_at head16 tt j)
+head-small (inr (inr p)) j = subst (λ (t : List ℤ). nat_abs (get_or t j (pos 0)) ≤ 128) (sym p.1) (small_at head32 tt j)

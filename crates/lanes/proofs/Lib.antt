@@ -1,7 +1,8 @@
--- Fours: what the laws of lanes ask of the record of four. Picks: a kernel of a known length and code is the one that was asked for.
--- Headed: the room of the head of a table. Odds: the odd half of a DCT. Flats: records of four numbers in a flat list.
-pub mod Fours
+-- Numbered: N numbers that a loop computes one after the other. Columns: records read from a list. Picks: a kernel of a known length and code is the one that was asked for.
+-- Cleared: records of which those from live on were cleared. Headed: the room of the head of a table. Odds: the odd half of a DCT.
+pub mod Numbered
+pub mod Columns
 pub mod Picks
+pub mod Cleared
 pub mod Headed
 pub mod Odds
-pub mod Flats

@@ -1,152 +1,85 @@
-// The kernels of each length, by kind: the live records are laid into a list of zeros, a kernel makes a second list of it, and the result is its records. At most four live records of a DCT go by the head of its table.
-// Each length has two functions for it: so the compiler lets the second list lie where its copy of the records was.
-ghost use Rattle.std.specs.Prelude.{◌≡◌, true, ℕ, length, take};
+// The kernels of each length, by kind.
+ghost use Rattle.std.specs.Prelude.{◌≡◌, true, cond, eqb, ℕ, ◌^◌, ◌≤◌, nat_abs, length};
+ghost use Rattle.whole.specs.Sums.{Within};
+ghost use Rattle.whole.specs.Lanes.{col};
+ghost use Rattle.tables.specs.Dst.{adst16, flipadst16, ddt16};
 ghost use Rattle.tables.specs.Kinds.{has_kind};
-ghost use Rattle.tables.specs.Dense.{dense_of, first_dense};
-ghost use Rattle.lanes.specs.View.{cols, Live, Through};
-ghost use Rattle.lanes.specs.Flat.{flat, Ready, Across};
+ghost use Rattle.tables.specs.Dense.{multiplied, dense_of};
+ghost use Rattle.lanes.specs.View.{Ready, Across};
 
-use crate::{Lane, dct, dst, flat};
+use crate::dst::g_dst;
+use crate::{Lanes, dct};
+use tables::dst;
 
-// The kernels of 4 on a list.
-fn kernel4(xs: &[i32], e: &mut [i32], code: usize)
-    requires { (has_kind 4 code ≡ true) × Ready 4 xs.now × (length e.old ≡ 16) }
-    ensures { Across 4 (dense_of 4 code) xs.now e.new }
+// Each of the n records times f.
+pub fn times<L: Lanes>(c: &[L], e: &mut [L], f: i32, n: usize)
+    requires { (n ≤ length c.now) × (n ≤ length e.old) × (nat_abs f ≤ 512) × ((k : ℕ) → Within (2 ^ 19) (col L.lane k c.now)) }
+    ensures { Across L.lane n (multiplied n f) c.now e.new }
+{
+    for i in 0..n {
+        e[i] = c[i].mul_n(f);
+    }
+}
+
+// The kernels of 4.
+pub fn kernel4<L: Lanes>(xs: &[L], e: &mut [L], code: usize)
+    requires { (has_kind 4 code ≡ true) × Ready L.lane 4 xs.now × (4 ≤ length e.old) }
+    ensures { Across L.lane 4 (dense_of 4 code) xs.now e.new }
 {
     match code {
-        0 => return dct::g_dct4(xs, e),
-        1 => return flat::times(xs, e, 128, 4),
-        2 => return dst::g_adst4(xs, e),
-        _ => return dst::g_flipadst4(xs, e),
+        0 => dct::g_dct4(xs, e),
+        1 => times(xs, e, 128, 4),
+        2 => g_dst(xs, 4, &dst::ADST4_KERNEL, false, e),
+        _ => g_dst(xs, 4, &dst::FLIPADST4_KERNEL, false, e),
     }
 }
 
-// The records that they make.
-fn made4(xs: &[i32], code: usize) -> [Lane; 32]
-    requires { (has_kind 4 code ≡ true) × Ready 4 xs.now }
-    ensures { (k : ℕ) → take 4 (cols k result) ≡ dense_of 4 code (flat k xs.now) }
-{
-    let mut e = [0i32; 16];
-    kernel4(xs, &mut e, code);
-    flat::records(&e, 4)
-}
-
-// The kernels of 4 on the first live records.
-pub fn by4(c: [Lane; 32], code: usize, live: usize) -> [Lane; 32]
-    requires { (has_kind 4 code ≡ true) × Live 4 live c }
-    ensures { Through 4 (first_dense 4 code live) c result }
-{
-    let mut xs = [0i32; 16];
-    flat::lay(&mut xs, c, 4, live);
-    made4(&xs, code)
-}
-
-// The kernels of 8 on a list.
-fn kernel8(xs: &[i32], e: &mut [i32], code: usize)
-    requires { (has_kind 8 code ≡ true) × Ready 8 xs.now × (length e.old ≡ 32) }
-    ensures { Across 8 (dense_of 8 code) xs.now e.new }
+// The kernels of 8.
+pub fn kernel8<L: Lanes>(xs: &[L], e: &mut [L], code: usize)
+    requires { (has_kind 8 code ≡ true) × Ready L.lane 8 xs.now × (8 ≤ length e.old) }
+    ensures { Across L.lane 8 (dense_of 8 code) xs.now e.new }
 {
     match code {
-        0 => return dct::g_dct8(xs, e),
-        1 => return flat::times(xs, e, 181, 8),
-        2 => return dst::g_adst8(xs, e),
-        3 => return dst::g_flipadst8(xs, e),
-        4 => return dst::g_ddt8(xs, e),
-        _ => return dst::g_flipddt8(xs, e),
+        0 => dct::g_dct8(xs, e),
+        1 => times(xs, e, 181, 8),
+        2 => g_dst(xs, 8, &dst::ADST8_KERNEL, false, e),
+        3 => g_dst(xs, 8, &dst::ADST8_KERNEL, true, e),
+        4 => g_dst(xs, 8, &dst::DDT8_KERNEL, false, e),
+        _ => g_dst(xs, 8, &dst::DDT8_KERNEL, true, e),
     }
 }
 
-// The records that they make.
-fn made8(xs: &[i32], code: usize) -> [Lane; 32]
-    requires { (has_kind 8 code ≡ true) × Ready 8 xs.now }
-    ensures { (k : ℕ) → take 8 (cols k result) ≡ dense_of 8 code (flat k xs.now) }
-{
-    let mut e = [0i32; 32];
-    kernel8(xs, &mut e, code);
-    flat::records(&e, 8)
-}
-
-// The kernels of 8 on the first live records.
-pub fn by8(c: [Lane; 32], code: usize, live: usize) -> [Lane; 32]
-    requires { (has_kind 8 code ≡ true) × Live 8 live c }
-    ensures { Through 8 (first_dense 8 code live) c result }
-{
-    if code == 0 && live <= 4 {
-        return dct::head8(c, live);
-    }
-    let mut xs = [0i32; 32];
-    flat::lay(&mut xs, c, 8, live);
-    made8(&xs, code)
-}
-
-// The kernels of 16 on a list.
-fn kernel16(xs: &[i32], e: &mut [i32], code: usize)
-    requires { (has_kind 16 code ≡ true) × Ready 16 xs.now × (length e.old ≡ 64) }
-    ensures { Across 16 (dense_of 16 code) xs.now e.new }
+// The table of an ADST or DDT of 16.
+fn table16(code: usize) -> &'static [i8]
+    requires { (2 ≤ code) × (code ≤ 5) }
+    ensures { result.now ≡ cond (eqb code 2) adst16 (cond (eqb code 3) flipadst16 ddt16) }
 {
     match code {
-        0 => return dct::g_dct16(xs, e),
-        1 => return flat::times(xs, e, 256, 16),
-        2 => return dst::g_adst16(xs, e),
-        3 => return dst::g_flipadst16(xs, e),
-        4 => return dst::g_ddt16(xs, e),
-        _ => return dst::g_flipddt16(xs, e),
+        2 => &dst::ADST16_KERNEL,
+        3 => &dst::FLIPADST16_KERNEL,
+        _ => &dst::DDT16_KERNEL,
     }
 }
 
-// The records that they make.
-fn made16(xs: &[i32], code: usize) -> [Lane; 32]
-    requires { (has_kind 16 code ≡ true) × Ready 16 xs.now }
-    ensures { (k : ℕ) → take 16 (cols k result) ≡ dense_of 16 code (flat k xs.now) }
-{
-    let mut e = [0i32; 64];
-    kernel16(xs, &mut e, code);
-    flat::records(&e, 16)
-}
-
-// The kernels of 16 on the first live records.
-pub fn by16(c: [Lane; 32], code: usize, live: usize) -> [Lane; 32]
-    requires { (has_kind 16 code ≡ true) × Live 16 live c }
-    ensures { Through 16 (first_dense 16 code live) c result }
-{
-    if code == 0 && live <= 4 {
-        return dct::head16(c, live);
-    }
-    let mut xs = [0i32; 64];
-    flat::laid(&mut xs, c, live);
-    made16(&xs, code)
-}
-
-// The kernels of 32 on a list.
-fn kernel32(xs: &[i32], e: &mut [i32], code: usize)
-    requires { (has_kind 32 code ≡ true) × Ready 32 xs.now × (length e.old ≡ 128) }
-    ensures { Across 32 (dense_of 32 code) xs.now e.new }
+// The kernels of 16. The dense ones are one call: with a call for each table the compiler writes out all 256 products of each, and that is slower.
+pub fn kernel16<L: Lanes>(xs: &[L], e: &mut [L], code: usize)
+    requires { (has_kind 16 code ≡ true) × Ready L.lane 16 xs.now × (16 ≤ length e.old) }
+    ensures { Across L.lane 16 (dense_of 16 code) xs.now e.new }
 {
     match code {
-        0 => return dct::g_dct32(xs, e),
-        _ => return flat::times(xs, e, 362, 32),
+        0 => dct::g_dct16(xs, e),
+        1 => times(xs, e, 256, 16),
+        _ => g_dst(xs, 16, table16(code), code == 5, e),
     }
 }
 
-// The records that they make.
-fn made32(xs: &[i32], code: usize) -> [Lane; 32]
-    requires { (has_kind 32 code ≡ true) × Ready 32 xs.now }
-    ensures { (k : ℕ) → take 32 (cols k result) ≡ dense_of 32 code (flat k xs.now) }
+// The kernels of 32.
+pub fn kernel32<L: Lanes>(xs: &[L], e: &mut [L], code: usize)
+    requires { (has_kind 32 code ≡ true) × Ready L.lane 32 xs.now × (32 ≤ length e.old) }
+    ensures { Across L.lane 32 (dense_of 32 code) xs.now e.new }
 {
-    let mut e = [0i32; 128];
-    kernel32(xs, &mut e, code);
-    flat::records(&e, 32)
-}
-
-// The kernels of 32 on the first live records.
-pub fn by32(c: [Lane; 32], code: usize, live: usize) -> [Lane; 32]
-    requires { (has_kind 32 code ≡ true) × Live 32 live c }
-    ensures { Through 32 (first_dense 32 code live) c result }
-{
-    if code == 0 && live <= 4 {
-        return dct::head32(c, live);
+    match code {
+        0 => dct::g_dct32(xs, e),
+        _ => times(xs, e, 362, 32),
     }
-    let mut xs = [0i32; 128];
-    flat::laid(&mut xs, c, live);
-    made32(&xs, code)
 }

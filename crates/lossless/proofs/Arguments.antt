@@ -1,9 +1,10 @@
 -- What the refusals 1, 5, 6 and 7 leave for the rest of a call. Assumes nothing.
 --     stops1, is5, is_width, is6, is_fit, is7  the front by its tests, one after the other
---     Fine, fine, front-done      the tests pass exactly where the front's answer is Done
+--     Fine, fine, fine-ok, front-done      the tests pass exactly where the front's answer is Done
 --     depth_is, stride-is, width_is, fit_is, column-is  the tests as facts on numbers
+--     reach-ok                    where the front is Done, the block ends within the plane
 --     lies                        the block's indices lie in the plane, and no two are the same
-use mathlib.Core.Path.{◌≡◌, sym, ◌∙◌, subst}
+use mathlib.Core.Path.{◌≡◌, sym, ap, ◌∙◌, subst}
 use mathlib.Core.Bool.{true, false, ◌&&◌}
 use Prim.Native.Nat.{ℕ, ◌+◌, ◌*◌, ◌≤◌, ◌<◌}
 use native.Mathlib.Nat as N
@@ -88,6 +89,9 @@ module _ (n : ℕ) (s : Step) where
         levels = all_small 262144 (neg_ℤ (pos 262144)) (pos 262144) (lit≤ tt) (lit≤ tt) s.levels (eqb-true (length s.levels) 16 c.0) d.0;
       }
 
+  pub fine-ok : done ≡ front n s → Fine n s
+  fine-ok e = fine (ap (λ (x : Answer). x.number) (sym e))
+
   pub front-done : Fine n s → front n s ≡ done
   front-done f =
       is7 f.depths f.wide f.visible f.levels.count f.fit
@@ -118,6 +122,9 @@ module _ (w : Where) where
 
     pub column-is : w.column + 4 ≤ w.width
     column-is = leb-true (w.column + 4) w.width sides.0
+
+pub reach-ok : (n : ℕ) (s : Step) → done ≡ front n s → s.at.row * s.at.stride + s.at.column + 3 * s.at.stride + 4 ≤ n
+reach-ok n s e = fit_is s.at n (fine-ok n s e).fit
 
 pub lies : {n : ℕ} {s : Step} → Fine n s → Lies (spot s.at) n
 lies {n} {s} f =

@@ -1,8 +1,9 @@
 // The refusals 1, 5, 6 and 7, by the arguments alone.
 ghost use Rattle.std.specs.Prelude.{◌≡◌, ◌≤◌};
+ghost use Rattle.answers.specs.Reasons.{verdict_of};
 ghost use Rattle.lossless.specs.Step.{place, attempt, fits, front};
 
-use answers::Answer;
+use answers::{Reason, Slice};
 use ranges::between;
 
 // Whether the block lies in the visible part of a plane of n samples. The tests before the sum keep it from wrapping.
@@ -19,7 +20,8 @@ pub fn block_fits(n: usize, stride: usize, width: usize, row: usize, column: usi
     (row + 3) * stride + column + 4 <= n
 }
 
-// The first of the refusals 1, 5, 6 and 7 that applies to a plane of n samples, or Done.
+// The first of the refusals 1, 5, 6 and 7 that applies to a plane of n samples.
+#[tactic(auto, unfolding(crate::specs::Step::front))]
 pub fn judge(
     n: usize,
     depth: u32,
@@ -28,27 +30,26 @@ pub fn judge(
     row: usize,
     column: usize,
     level: &[i32],
-) -> Answer
-    ensures { result ≡ front n (attempt depth stride width row column level.now) }
+) -> Result<(), Reason>
+    ensures { verdict_of result ≡ front n (attempt depth stride width row column level.now) }
 {
     if !between(depth as usize, 8, 12) {
-        return answers::refusal(1, 0, 0);
+        return Err(Reason::Depth);
     }
     if !between(stride, 4, 65536) {
-        return answers::refusal(5, 0, 0);
+        return Err(Reason::Stride);
     }
     if !between(width, 4, stride) {
-        return answers::refusal(5, 0, 0);
+        return Err(Reason::Stride);
     }
     if level.len() != 16 {
-        return answers::refusal(6, 1, 0);
+        return Err(Reason::Length(Slice::Read));
     }
     if !block_fits(n, stride, width, row, column) {
-        return answers::refusal(6, 2, 0);
+        return Err(Reason::Length(Slice::Picture));
     }
-    let found = wht::first_bad(level, -262144, 262144);
-    if found < 16 {
-        return answers::refusal(7, 1, found);
+    match wht::find_bad(level, -262144, 262144) {
+        Some(place) => Err(Reason::Level(Slice::Read, place)),
+        None => Ok(()),
     }
-    answers::finished()
 }

@@ -4,11 +4,12 @@
 
 ghost use Rattle.std.specs.Prelude.{◌≡◌, map, neg_ℤ, length};
 ghost use Rattle.whole.specs.Sums.{item};
+ghost use Rattle.answers.specs.Reasons.{verdict_of};
 ghost use Rattle.wht.specs.Calls.{Sixteen};
 ghost use Rattle.lossless.specs.Step.{attempt, gain_of, step_of, undo_of};
 ghost use Rattle.lossless.specs.Bounds.{change};
 
-use answers::Answer;
+use answers::{Answer, Reason};
 
 // The refusals 1, 5, 6 and 7, by the arguments alone.
 pub mod front;
@@ -20,15 +21,13 @@ fn negate(l: &mut [i32])
     requires { Sixteen 1048576 l.old }
     ensures { l.new ≡ map neg_ℤ l.old }
 {
-    let mut k = 0;
-    while k < 16 {
-        let z = -l[k];
-        l[k] = z;
-        k += 1;
+    for z in l.iter_mut() {
+        *z = -*z;
     }
 }
 
 // What the block's samples gain: the residuals of the levels, in an undo with the other sign.
+// Kept: `undo` is a flag, as in the definition `change`; closures for the one change of sign would be longer.
 pub fn changes(level: &[i32], undo: bool, out: &mut [i32])
     requires { Sixteen 262144 level.now × (length out.old ≡ 16) }
     ensures { out.new ≡ change undo level.now }
@@ -49,13 +48,10 @@ fn step_or_undo(
     column: usize,
     level: &[i32],
     undo: bool,
-) -> Answer
-    ensures { (result, plane.new) ≡ gain_of plane.old (attempt depth stride width row column level.now) (item (change undo level.now)) }
+) -> Result<(), Reason>
+    ensures { (verdict_of result, plane.new) ≡ gain_of plane.old (attempt depth stride width row column level.now) (item (change undo level.now)) }
 {
-    let a = front::judge(plane.len(), depth, stride, width, row, column, level);
-    if a.number != 0 {
-        return a;
-    }
+    front::judge(plane.len(), depth, stride, width, row, column, level)?;
     let mut gains = [0i32; 16];
     changes(level, undo, &mut gains);
     block::gain(plane, &gains, depth, row * stride + column, stride)
@@ -73,7 +69,7 @@ pub fn lossless_step(
 ) -> Answer
     ensures { (result, plane.new) ≡ step_of plane.old (attempt depth stride width row column level.now) }
 {
-    step_or_undo(depth, plane, stride, width, row, column, level, false)
+    Answer::from(step_or_undo(depth, plane, stride, width, row, column, level, false))
 }
 
 // Each sample of the block loses its residual.
@@ -88,5 +84,5 @@ pub fn lossless_undo(
 ) -> Answer
     ensures { (result, plane.new) ≡ undo_of plane.old (attempt depth stride width row column level.now) }
 {
-    step_or_undo(depth, plane, stride, width, row, column, level, true)
+    Answer::from(step_or_undo(depth, plane, stride, width, row, column, level, true))
 }

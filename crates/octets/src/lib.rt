@@ -8,7 +8,7 @@ ghost use Rattle.octets.specs.Octets.{is_byte};
 pub fn number(x: u8) -> i32
     ensures { (result ≡ pos x) × (x ≤ 255) }
 {
-    x as i32
+    i32::from(x)
 }
 
 // A number of 0 .. 255 as a byte.

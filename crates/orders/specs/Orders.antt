@@ -1,16 +1,18 @@
 -- A command that can be carried out, with the numbers of its line. Definitions only.
---     Ordered c s remaining list      c is 0, or the number of a command that the screen s, with so many steps, can carry out
-use Rattle.std.specs.Prelude.{◌≡◌, true, List, ℕ, ◌≤◌, ◌<◌, ℤ}
-use Rattle.lossless.specs.Wanted.{Samples}
+--     Ordered c s n list      the screen s, with n steps that remain, can carry out the command c; a new screen can be
+use Rattle.std.specs.Prelude.{◌≡◌, true, List, ℕ, ◌≤◌, ℤ, Option, Some, None}
 use Rattle.screen.specs.declared.Screen.{Screen}
+use Rattle.screen.specs.declared.command.Command.{Command}
+use Rattle.screen.specs.declared.command.Command.TheVariants.{Begin, Changes, Keep, Looks}
 use Rattle.screen.specs.Planes.{argument}
 use Rattle.screen.specs.Screens.{possible_of}
-use Rattle.screen.specs.Steps.{wanted}
+use Rattle.screen.specs.Commands.{ActFits, LookFits}
 
-pub record Ordered (command : ℕ) (s : Screen) (remaining : ℕ) (list : List ℤ) : Type 0 where
-  pub there : 1 < command → 0 < s.stride
-  pub possible : command ≡ 1 → possible_of (argument list 0) (argument list 1) (argument list 2) ≡ true
-  pub pad : command ≡ 1 → argument list 3 ≤ 64
-  pub samples : command ≡ 3 → Samples s.depth (wanted list)
-  pub few : command ≡ 6 → argument list 0 ≤ remaining
-  pub inside : command ≡ 12 → (argument list 0 < s.height) × (argument list 1 < s.width)
+abbrev pub Ordered : Command → Option Screen → ℕ → List ℤ → Type 0
+Ordered Begin s n list = (possible_of (argument list 0) (argument list 1) (argument list 2) ≡ true) × (argument list 3 ≤ 64)
+Ordered (Changes a) None n list = ⊥
+Ordered (Changes a) (Some s) n list = ActFits a s n list
+Ordered Keep None n list = ⊥
+Ordered Keep (Some s) n list = Unit {0}
+Ordered (Looks l) None n list = ⊥
+Ordered (Looks l) (Some s) n list = LookFits l s list

@@ -1,89 +1,137 @@
-// The commands by their numbers, and how many numbers each takes.
-ghost use Rattle.std.specs.Prelude.{◌≤◌, length};
+// The commands by their words, and how many numbers each takes.
+ghost use Rattle.std.specs.Prelude.{◌≤◌};
 
-use events::say;
-use std::io;
-use words::line_end;
+use screen::command::{Act, Call, Command, Look};
+use std::fmt;
 
-// The number of a word among names, counted from 1; 0 for none. Each name ends with a line feed.
-fn which(line: &[u8], from: usize, to: usize, names: &[u8]) -> u32
-    requires { (from ≤ to) × (to ≤ length line.now) × (length names.now ≤ 1000) }
-{
-    let mut at = 0;
-    let mut k = 0;
-    while at < names.len() {
-        let end = line_end(names, at);
-        k += 1;
-        if words::same(line, from, to, &names[at..end]) {
-            return k;
+// What numbers a command takes.
+#[derive(Clone, Copy, Debug, PartialEq, Eq)]
+pub enum Form {
+    Nothing,
+    Screen,
+    Block,
+    Change,
+    Count,
+    Number,
+    Place,
+}
+
+impl fmt::Display for Form {
+    fn fmt<W: fmt::Write>(&self, f: &mut fmt::Formatter<W>) -> fmt::Result {
+        f.write_str(match self {
+            Form::Nothing => "nothing",
+            Form::Screen => "WIDTH HEIGHT DEPTH and a pad or nothing",
+            Form::Block => "ROW COLUMN SIZE TYPE and coefficients",
+            Form::Change => "ROW COLUMN and 16 samples",
+            Form::Count => "a count or nothing",
+            Form::Number => "a NUMBER",
+            Form::Place => "ROW COLUMN",
+        })
+    }
+}
+
+impl Form {
+    // Whether it has so many numbers.
+    pub fn takes(self, count: usize) -> bool {
+        match self {
+            Form::Nothing => count == 0,
+            Form::Screen => count == 3 || count == 4,
+            Form::Block => 4 <= count,
+            Form::Change => count == 18,
+            Form::Count => count <= 1,
+            Form::Number => count == 1,
+            Form::Place => count == 2,
         }
-        at = end + 1;
     }
-    0
-}
 
-// The commands, by number; 0 is none.
-pub fn command(line: &[u8], from: usize, to: usize) -> u32
-    requires { (from ≤ to) × (to ≤ length line.now) }
-{
-    which(
-        line,
-        from,
-        to,
-        b"screen\nblock\nchange\nwithdraw\nfold\nundo\nkeep\nshow\ncompare\npad\nfree\nwho\nsteps\n",
-    )
-}
-
-// What kind of numbers a command takes.
-pub fn form(command: u32) -> u32 {
-    match command {
-        1 => 1,
-        2 => 2,
-        3 => 3,
-        6 => 4,
-        4 => 5,
-        11 => 5,
-        12 => 6,
-        _ => 0,
+    // How many of the numbers, the first, may not be negative.
+    pub fn heads(self, count: usize) -> usize
+        ensures { result ≤ 4 }
+    {
+        match self {
+            Form::Change => 2,
+            _ => count.min(4),
+        }
     }
 }
 
-// Whether a form has so many numbers.
-pub fn takes(form: u32, count: usize) -> bool {
-    match form {
-        1 => count == 3 || count == 4,
-        2 => 4 <= count,
-        3 => count == 18,
-        4 => count <= 1,
-        5 => count == 1,
-        6 => count == 2,
-        _ => count == 0,
-    }
+// A command, its word, and what it takes.
+#[derive(Clone, Copy)]
+pub struct Entry {
+    pub word: &'static str,
+    pub command: Command,
+    pub form: Form,
 }
 
-// What a command takes.
-pub fn usage(rt: &impl Print, number: usize, name: &[u8], form: u32) -> io::Result<()> {
-    say::start(rt, number)?;
-    say::text(rt, b"error: ")?;
-    say::text(rt, name)?;
-    say::text(rt, b" takes ")?;
-    say::item(
-        rt,
-        b"nothing\nWIDTH HEIGHT DEPTH and a pad or nothing\nROW COLUMN SIZE TYPE and coefficients\nROW COLUMN and 16 samples\na count or nothing\na NUMBER\nROW COLUMN\n",
-        form as usize,
-    )?;
-    say::nothing(rt)
-}
+const COMMANDS: [Entry; 13] = [
+    Entry {
+        word: "screen",
+        command: Command::Begin,
+        form: Form::Screen,
+    },
+    Entry {
+        word: "block",
+        command: Command::Changes(Act::One(Call::Block)),
+        form: Form::Block,
+    },
+    Entry {
+        word: "change",
+        command: Command::Changes(Act::One(Call::Change)),
+        form: Form::Change,
+    },
+    Entry {
+        word: "withdraw",
+        command: Command::Changes(Act::One(Call::Withdraw)),
+        form: Form::Number,
+    },
+    Entry {
+        word: "fold",
+        command: Command::Changes(Act::One(Call::Fold)),
+        form: Form::Nothing,
+    },
+    Entry {
+        word: "undo",
+        command: Command::Changes(Act::Undo),
+        form: Form::Count,
+    },
+    Entry {
+        word: "keep",
+        command: Command::Keep,
+        form: Form::Nothing,
+    },
+    Entry {
+        word: "show",
+        command: Command::Looks(Look::Show),
+        form: Form::Nothing,
+    },
+    Entry {
+        word: "compare",
+        command: Command::Looks(Look::Compare),
+        form: Form::Nothing,
+    },
+    Entry {
+        word: "pad",
+        command: Command::Looks(Look::Pad),
+        form: Form::Nothing,
+    },
+    Entry {
+        word: "free",
+        command: Command::Looks(Look::Free),
+        form: Form::Number,
+    },
+    Entry {
+        word: "who",
+        command: Command::Looks(Look::Who),
+        form: Form::Place,
+    },
+    Entry {
+        word: "steps",
+        command: Command::Looks(Look::Steps),
+        form: Form::Nothing,
+    },
+];
 
-// How many of the numbers, the first, may not be negative.
-pub fn heads(form: u32, count: usize) -> usize
-    ensures { result ≤ 4 }
-{
-    if form == 3 {
-        return 2;
-    }
-    if count < 4 {
-        return count;
-    }
-    4
+// The command of a word.
+pub fn find(word: &[u8]) -> Option<Entry> {
+    COMMANDS.iter().find(|e| e.word.as_bytes() == word).copied()
 }

@@ -1,6 +1,5 @@
 -- The live part of a block, and what its passes leave. Assumes nothing.
---     part-dead                        a part of a list that holds no number other than 0, by the list's own places
---     line-lent                        a line, as it is lent
+--     part-dead, lent-dead             a part of a list that holds no number other than 0, by the list's own places
 --     line-more, lines-tail            one empty line more; the lines after the fourth, tested as a whole
 --     line-done, fours-more            four places, line by line; four empty places more
 --     dead-lines                       the lines and the places together
@@ -16,7 +15,6 @@ use mathlib.Core.Bool.{Bool, true, false}
 use mathlib.Core.List.{List}
 use Prim.Native.Nat.{ℕ, ◌+◌, ◌*◌, ◌-◌, ◌^◌, ◌≤◌, ◌<◌}
 use native.Mathlib.Nat as N
-use native.Mathlib.Numerals.{add-one}
 use native.Mathlib.Decide.{ℕ_discrete}
 use native.Mathlib.Omega.{arith}
 use lib.Arith.{lt_of_le-ne}
@@ -28,7 +26,7 @@ use Rattle.whole.specs.Grid.{rows_by, cols_by, Same, Bounded}
 use Rattle.whole.proofs.Cells.{under}
 use Rattle.whole.proofs.Sums.{within_all}
 use Rattle.whole.proofs.Fill.{tab-at, length-tab}
-use Rattle.whole.proofs.Lent.{part_at, part_count}
+use Rattle.whole.proofs.Lent.{part_at, part_count, lent, lent_at, lent-count}
 use Rattle.tables.specs.Dense.{first_of, dense_of, first_dense}
 use Rattle.tables.specs.Sizes.{cut}
 use Rattle.tables.specs.Kinds.{has_kind}
@@ -45,8 +43,9 @@ pub part-dead : (cs : List ℤ) (a n : ℕ) → a + n ≤ length cs → ((k : �
     → (k : ℕ) → k < n → get_or cs (a + k) (pos 0) ≡ pos 0
 part-dead cs a n fit h k l = sym (part_at (pos 0) cs a n k l) ∙ h k (subst (λ (m : ℕ). k < m) (sym (part_count cs a n fit)) l)
 
-times_more : (x y sh : ℕ) → x ≡ y + 1 → x * sh ≡ y * sh + sh
-times_more x y sh e = ap (λ z. z * sh) (e ∙ add-one y) ∙ N.suc-mul y sh
+-- the same of a part that ends at a + n
+pub lent-dead : (cs : List ℤ) (a n : ℕ) → a + n ≤ length cs → ((k : ℕ) → k < length (lent a n cs) → get_or (lent a n cs) k (pos 0) ≡ pos 0) → (k : ℕ) → k < n → get_or cs (a + k) (pos 0) ≡ pos 0
+lent-dead cs a n fit h k l = sym (lent_at (pos 0) cs a n fit k l) ∙ h k (subst (λ (m : ℕ). k < m) (sym (lent-count (pos 0) cs a n fit)) l)
 
 pub line-more : (cs : List ℤ) (top sh x y : ℕ) → x ≡ y + 1 → DeadLines x top sh cs → ((k : ℕ) → k < sh → get_or cs (y * sh + k) (pos 0) ≡ pos 0) → DeadLines y top sh cs
 line-more cs top sh x y e old new r z a b c = go (ℕ_discrete z y)
@@ -57,26 +56,6 @@ line-more cs top sh x y e old new r z a b c = go (ℕ_discrete z y)
       where
         next : y < z → x ≤ z
         next h = omega arith
-
--- the line before x, as it is lent
-pub line-lent : (cs : List ℤ) (x sh : ℕ) → 0 < x → x * sh ≤ length cs
-    → ((k : ℕ) → k < length (take (x * sh - (x * sh - sh)) (drop (x * sh - sh) cs)) → get_or (take (x * sh - (x * sh - sh)) (drop (x * sh - sh) cs)) k (pos 0) ≡ pos 0)
-    → (k : ℕ) → k < sh → get_or cs ((x - 1) * sh + k) (pos 0) ≡ pos 0
-line-lent cs x sh h l dead k q =
-    let e = times_more x (x - 1) sh (back x h) in
-    ap (λ j. get_or cs (j + k) (pos 0)) (sym (before (x * sh) ((x - 1) * sh) e)) ∙ part-dead cs (x * sh - sh) (x * sh - (x * sh - sh)) (fit (x * sh) ((x - 1) * sh) e l) dead k (less (x * sh) ((x - 1) * sh) e q)
-  where
-    back : (x : ℕ) → 0 < x → x ≡ x - 1 + 1
-    back x h = omega arith
-
-    before : (p q : ℕ) → p ≡ q + sh → p - sh ≡ q
-    before p q e = omega arith
-
-    fit : (p q : ℕ) → p ≡ q + sh → p ≤ length cs → p - sh + (p - (p - sh)) ≤ length cs
-    fit p q e l = omega arith
-
-    less : (p q : ℕ) → p ≡ q + sh → k < sh → k < p - (p - sh)
-    less p q e l = omega arith
 
 pub lines-tail : (cs : List ℤ) (cols sw sh : ℕ) → cols ≤ 4 → 4 ≤ sw → DeadLines cols 4 sh cs → ((k : ℕ) → k < sw * sh - 4 * sh → get_or cs (4 * sh + k) (pos 0) ≡ pos 0) → DeadLines cols sw sh cs
 lines-tail cs cols sw sh h l old tail r z a b c = go (under 4 z)

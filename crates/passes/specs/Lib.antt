@@ -1,2 +1,3 @@
 -- From coefficients to the numbers after the columns.
 pub mod Passes
+pub mod Forms

@@ -9,23 +9,14 @@ pub struct Part {
     pub down: usize,
 }
 
-// 1 for a number other than zero.
-fn one(z: i32) -> u32
-    ensures { (result ≤ 1) × (result ≡ 0 → z ≡ pos 0) }
-{
-    if z != 0 { 1 } else { 0 }
-}
-
 // How many numbers are not zero. The loop isn't left early, so that the compiler tests several numbers at a time.
 fn some(c: &[i32]) -> u32
     requires { length c.now ≤ 1024 }
     ensures { result ≡ 0 → (k : ℕ) → k < length c.now → get_or c.now k (pos 0) ≡ pos 0 }
 {
     let mut n = 0;
-    let mut i = 0;
-    while i < c.len() {
-        n += one(c[i]);
-        i += 1;
+    for z in c {
+        n += u32::from(*z != 0);
     }
     n
 }
@@ -35,16 +26,13 @@ fn last_line(coeff: &[i32], top: usize, size: usize) -> usize
     requires { (top ≤ 32) × (size ≤ 32) × (top * size ≤ length coeff.now) }
     ensures { (result ≤ top) × DeadLines result top size coeff.now }
 {
-    let mut x = top;
-    while 0 < x {
-        let e = x * size;
-        let a = e - size;
-        if some(&coeff[a..e]) != 0 {
-            return x;
+    for x in (0..top).rev() {
+        let a = x * size;
+        if some(&coeff[a..a + size]) != 0 {
+            return x + 1;
         }
-        x -= 1;
     }
-    x
+    0
 }
 
 // One more than the last of all lines that is not empty: most often the last; else those from the fifth on are tested as a whole.
@@ -70,14 +58,11 @@ fn four_live(coeff: &[i32], r: usize, lines: usize, size: usize) -> bool
     requires { (r + 4 ≤ size) × (size ≤ 32) × (lines ≤ 32) × (lines * size ≤ length coeff.now) }
     ensures { result ≡ false → (k x : ℕ) → k < 4 → x < lines → get_or coeff.now (r + k + x * size) (pos 0) ≡ pos 0 }
 {
-    let mut x = 0;
-    while x < lines {
+    for x in 0..lines {
         let a = r + x * size;
-        let e = a + 4;
-        if some(&coeff[a..e]) != 0 {
+        if some(&coeff[a..a + 4]) != 0 {
             return true;
         }
-        x += 1;
     }
     false
 }
@@ -87,15 +72,12 @@ fn live_fours(coeff: &[i32], lines: usize, size: usize) -> usize
     requires { (size % 4 ≡ 0) × (size ≤ 32) × (lines ≤ 32) × (lines * size ≤ length coeff.now) }
     ensures { (result ≤ size) × (result % 4 ≡ 0) × DeadFours result lines size coeff.now }
 {
-    let mut r = size;
-    while 0 < r {
-        let a = r - 4;
-        if four_live(coeff, a, lines, size) {
-            return r;
+    for k in (0..size / 4).rev() {
+        if four_live(coeff, 4 * k, lines, size) {
+            return 4 * k + 4;
         }
-        r = a;
     }
-    r
+    0
 }
 
 // The live part of a block. The last line is found first, then the last four places of the lines up to it.

@@ -2,34 +2,33 @@
 --     past-good       a memory that calls have led to is good: its steps, taken from the still, leave its plane, and its index is what they say
 --     count_none, none-index     an empty list, and its index
 --     past-begun, held_new     an empty history, and that of a new screen
---     few-cells, cells_fit, cells-part, shape_of      the cells of a screen fit their room; its sides are in range
+--     few-cells, cells-part, shape_of      the cells of a screen fit their room; its sides are in range
 --     past-redrawn, past-changed, past-withdrawn, past-folded, past-obey     each command
 --     past-undone, undo-done, count-undone     the newest step taken back: it is accepted, and one step less remains
 --     past_after                 the memory after any command
---     after-undo, after-other    which one it is
---     Undoing, undoing-start, undoing-more     a loop that takes back the newest steps
+--     obey-number, fits-number     a call by a command's number: what it does, and that a change alone asks for something
+--     Undoing, undoing-more     a loop that takes back the newest steps
 --     redrawn-kept, redrawn-new      a block that is refused, and one that is drawn
---     is_block, is-change, is-withdrawal, is-fold      which command it is
 --     change-is, fold_is         the calls behind a change and a fold
 use mathlib.Core.Path.{◌≡◌, refl, sym, ap, ◌∙◌, subst}
 use mathlib.Core.Bool.{Bool, true, false, cond}
+use Rattle.std.specs.Prelude.{Some}
 use mathlib.Core.List.{List, [], ◌++◌}
 use Prim.Native.Nat.{ℕ, zero, suc, ◌+◌, ◌*◌, ◌-◌, ◌≤◌, ◌<◌}
 use native.Mathlib.Nat as N
 use native.Mathlib.Numerals.{add-one}
 use native.Mathlib.Omega.{arith}
-use borrow.Author.Tests.{eq-eqb, ne_eqb, le-leb}
+use borrow.Author.Tests.{le-leb, eqb-true}
 use lib.Dec.{eqb}
 use lib.IntN.{ℤ, pos}
 use lib.ListN.{length, set, take, drop, length-set, take-append-drop}
 use lib.Seq.{get_or-set_same, length-take-le}
-use mir.Syntax.{w64}
-use mir.Val.{Fits}
 use Rattle.answers.specs.declared.Answer.{Answer}
 use Rattle.answers.specs.Answers.{done}
 use Rattle.answers.proofs.Verdicts.{left}
 use Rattle.answers.proofs.Endings.{ends-refused, ends-done}
 use Rattle.whole.specs.Sums.{tab}
+use Rattle.lossless.specs.Wanted.{Samples}
 use Rattle.whole.proofs.Tests.{and-true}
 use Rattle.verdicts.specs.Verdicts.{add_verdict}
 use Rattle.pixels.specs.Calls.{strict, add_of, added}
@@ -47,7 +46,12 @@ use Rattle.folding.specs.Led.{with_folded}
 use Rattle.folding.proofs.Led.{led-good}
 use Rattle.screen.specs.declared.Screen.{Screen}
 use Rattle.screen.specs.Planes.{argument, block_stands, block_of, from_on, drawn_of}
+use Rattle.screen.specs.declared.command.Call.{Call}
+use Rattle.screen.specs.declared.command.Call.TheVariants.{Block, Change, Withdraw, Fold}
+use Rattle.screen.specs.declared.command.Act.{Act}
+use Rattle.screen.specs.declared.command.Act.TheVariants.{One, Undo}
 use Rattle.screen.specs.Screens.{Sound}
+use Rattle.screen.specs.Commands.{call_of, CallFits}
 use Rattle.screen.specs.Steps.{wanted, levels_to}
 use Rattle.screen.proofs.Planes.{screen-part}
 use Rattle.past.specs.Commands.{emptied, redrawn_of, changed_of, folded_of, obey_of, undone, after_of, cells, Past, Held}
@@ -104,19 +108,11 @@ module _ (a : Area) (m : Lent) (p : Past a m) where
   unfolding folded_of
   past-folded = record { still = p.still; led = D.folded p.led }
 
-  pub past-obey : (command depth : ℕ) (list : List ℤ) → length (obey_of a command depth list m).1.plane ≡ a.size → Past a (obey_of a command depth list m).1
-  unfolding obey_of
-  past-obey command depth list = go (eqb command 2) (eqb command 3) (eqb command 4)
-    where
-      chosen : Bool → Bool → Bool → Answer × Lent
-      chosen x y z =
-          cond x (redrawn_of a depth list m) (cond y (changed_of a depth list m) (cond z (withdraw_of a (argument list 0) m) (folded_of a m)))
-
-      go : (x y z : Bool) → length (chosen x y z).1.plane ≡ a.size → Past a (chosen x y z).1
-      go true y z e = past-redrawn depth list e
-      go false true z e = past-changed depth list
-      go false false true e = past-withdrawn (argument list 0)
-      go false false false e = past-folded
+  pub past-obey : (call : Call) (depth : ℕ) (list : List ℤ) → length (obey_of a call depth list m).1.plane ≡ a.size → Past a (obey_of a call depth list m).1
+  past-obey Block depth list e = past-redrawn depth list e
+  past-obey Change depth list e = past-changed depth list
+  past-obey Withdraw depth list e = past-withdrawn (argument list 0)
+  past-obey Fold depth list e = past-folded
 
   -- ---- the newest step taken back
   pub past-undone : Past a (undo_of a m).1
@@ -138,31 +134,15 @@ pub past-undos : (a : Area) (m : Lent) → Past a m → (k : ℕ) → Past a (un
 past-undos a m p zero = p
 past-undos a m p (suc k) = past-undone a (undone a k m) (past-undos a m p k)
 
-pub past_after : (a : Area) (m : Lent) → Past a m → (command depth : ℕ) (list : List ℤ) → length (after_of a command depth list m).plane ≡ a.size → Past a (after_of a command depth list m)
-unfolding after_of
-past_after a m p command depth list = go (eqb command 6)
-  where
-    go : (x : Bool) → length (cond x (undone a (argument list 0) m) (obey_of a command depth list m).1).plane ≡ a.size
-        → Past a (cond x (undone a (argument list 0) m) (obey_of a command depth list m).1)
-    go true e = past-undos a m p (argument list 0)
-    go false e = past-obey a m p command depth list e
-
-pub after-undo : (a : Area) (m : Lent) (command depth : ℕ) (list : List ℤ) → command ≡ 6 → undone a (argument list 0) m ≡ after_of a command depth list m
-unfolding after_of
-after-undo a m command depth list e = rw (eq-eqb command 6 e)
-
-pub after-other : (a : Area) (m : Lent) (command depth : ℕ) (list : List ℤ) → (command ≡ 6 → ⊥) → (obey_of a command depth list m).1 ≡ after_of a command depth list m
-unfolding after_of
-after-other a m command depth list e = rw (ne_eqb command 6 e)
+pub past_after : (a : Area) (m : Lent) → Past a m → (act : Act) (depth : ℕ) (list : List ℤ) → length (after_of a act depth list m).plane ≡ a.size → Past a (after_of a act depth list m)
+past_after a m p (One c) depth list e = past-obey a m p c depth list e
+past_after a m p Undo depth list e = past-undos a m p (argument list 0)
 
 -- after i turns: what is left, that it can go on, and how many steps remain
 pub record Undoing (a : Area) (m : Lent) (i : ℕ) (n : Lent) : Type 0 where
   pub is : n ≡ undone a i m
   pub past : Past a n
   pub left : count n.steps + i ≡ count m.steps
-
-pub undoing-start : (a : Area) (m : Lent) → Past a m → Undoing a m 0 m
-undoing-start a m p = record { is = refl; past = p; left = omega arith }
 
 pub undoing-more : (a : Area) (m n n' : Lent) (i : ℕ) → Undoing a m i n → 0 < count n.steps → (done, n') ≡ undo_of a n → Undoing a m (i + 1) n'
 undoing-more a m n n' i u some e =
@@ -173,15 +153,33 @@ undoing-more a m n n' i u some e =
       left = omega (arith, ap (λ (x : Lent). count x.steps) q, count-undone a n u.past some, u.left, some);
     }
 
+-- ---- a call by a command's number
+pub obey-number : (a : Area) (n depth : ℕ) (list : List ℤ) (m : Lent) → obey_of a (call_of n) depth list m
+    ≡ cond (eqb n 2) (redrawn_of a depth list m) (cond (eqb n 3) (changed_of a depth list m) (cond (eqb n 4) (withdraw_of a (argument list 0) m) (folded_of a m)))
+obey-number a n depth list m = go (eqb n 2) (eqb n 3) (eqb n 4)
+  where
+    go : (x y z : Bool) → obey_of a (cond x Block (cond y Change (cond z Withdraw Fold))) depth list m
+        ≡ cond x (redrawn_of a depth list m) (cond y (changed_of a depth list m) (cond z (withdraw_of a (argument list 0) m) (folded_of a m)))
+    go true y z = refl
+    go false true z = refl
+    go false false true = refl
+    go false false false = refl
+
+pub fits-number : (n : ℕ) (s : Screen) (list : List ℤ) → (n ≡ 3 → Samples s.depth (wanted list)) → CallFits (call_of n) s list
+fits-number n s list f = go (eqb n 2) (eqb n 3) refl (eqb n 4)
+  where
+    go : (x y : Bool) → eqb n 3 ≡ y → (z : Bool) → CallFits (cond x Block (cond y Change (cond z Withdraw Fold))) s list
+    go true y e z = tt
+    go false true e z = f (eqb-true n 3 e)
+    go false false e true = tt
+    go false false e false = tt
+
 -- ---- a new screen
 pub few-cells : (w h : ℕ) → w ≤ 256 → h ≤ 256 → across h * across w ≤ 4096
 few-cells w h a b =
     let x : across h ≤ 64 = omega arith in
     let y : across w ≤ 64 = omega arith in
     N.mul-le-mul x y
-
-pub cells_fit : (w h : ℕ) → w ≤ 256 → h ≤ 256 → Fits w64 (across h * across w)
-cells_fit w h a b = record { fits = omega (arith, few-cells w h a b) }
 
 pub cells-part : (w h : ℕ) (x : List ℕ) → w ≤ 256 → h ≤ 256 → 4096 ≤ length x → length (take (across h * across w) x) ≡ across h * across w
 cells-part w h x a b c = length-take-le (across h * across w) x (N.le_trans (few-cells w h a b) c)
@@ -192,14 +190,16 @@ shape_of s n z w h =
     (and-true (and-true (le-leb 4 s.width w) (le-leb s.width s.stride z.wide)) (and-true (le-leb 4 s.height h) (le-leb s.height 65536 (omega (arith, z.high)))))
 
 pub held_new : (s : Screen) (room levels : List ℤ) (steps steps' index' : List ℕ) → Sound s → 4 ≤ s.width → 4 ≤ s.height → 81920 ≤ length room → length steps ≡ 16385
-    → length levels ≡ 65536 → steps' ≡ set steps 0 0 → take (cells s) index' ≡ tab (cells s) (λ _. 0) → Held s room steps' levels index'
+    → length levels ≡ 65536 → steps' ≡ set steps 0 0 → take (cells s) index' ≡ tab (cells s) (λ _. 0) → Held (Some s) room steps' levels index'
 held_new s room levels steps steps' index' z w h r t l e f =
     let n = s.stride * s.height in
     let a = area n s.stride s.width s.height in
-    let p = take n room in
-    λ _. subst (λ (x : List ℕ). Past a (lent p steps' levels x)) (sym f)
-    (subst (λ (y : List ℕ). Past a (lent p y levels (tab (cells s) (λ _. 0)))) (sym e)
-    (past-begun a (lent p steps levels []) p (shape_of s n z w h) (sym (screen-part room z.long z.high r)) t l))
+    let p = take n room in (
+      (z, omega (arith, w, z.wide)),
+      subst (λ (x : List ℕ). Past a (lent p steps' levels x)) (sym f)
+          (subst (λ (y : List ℕ). Past a (lent p y levels (tab (cells s) (λ _. 0)))) (sym e)
+          (past-begun a (lent p steps levels []) p (shape_of s n z w h) (sym (screen-part room z.long z.high r)) t l)),
+    )
 
 -- ---- a block, as the code has it
 block_refused : (p : List ℤ) (t w h r c : ℕ) (cs : List ℤ) (y x d : ℕ) → ((block_of p t w h r c cs y x d).0.number ≡ 0 → ⊥) → (block_of p t w h r c cs y x d).1 ≡ p
@@ -236,24 +236,6 @@ module _ (a : Area) (depth : ℕ) (list : List ℤ) (m : Lent) {r : Answer} {q :
       → (r, lent q s m.levels x) ≡ redrawn_of a depth list m
   unfolding redrawn_of
   redrawn-new z f g = ends-done answer m z (λ i. lent (plane i) (f i) m.levels (g i))
-
--- ---- which command it is
-module _ (a : Area) (command depth : ℕ) (list : List ℤ) (m : Lent) where
-  pub is_block : command ≡ 2 → redrawn_of a depth list m ≡ obey_of a command depth list m
-  unfolding obey_of
-  is_block e = sym (ap (λ k. obey_of a k depth list m) e)
-
-  pub is-change : command ≡ 3 → changed_of a depth list m ≡ obey_of a command depth list m
-  unfolding obey_of
-  is-change e = sym (ap (λ k. obey_of a k depth list m) e)
-
-  pub is-withdrawal : command ≡ 4 → withdraw_of a (argument list 0) m ≡ obey_of a command depth list m
-  unfolding obey_of
-  is-withdrawal e = sym (ap (λ k. obey_of a k depth list m) e)
-
-  pub is-fold : (command ≡ 2 → ⊥) → (command ≡ 3 → ⊥) → (command ≡ 4 → ⊥) → folded_of a m ≡ obey_of a command depth list m
-  unfolding obey_of
-  is-fold x y z = rw (ne_eqb command 2 x, ne_eqb command 3 y, ne_eqb command 4 z)
 
 pub change-is : (a : Area) (depth : ℕ) (list : List ℤ) (m : Lent) {r c : ℕ} {v : List ℤ} {x : Answer × Lent} → r ≡ argument list 0 → c ≡ argument list 1
     → v ≡ levels_to depth a.stride a.width a.rows r c m.plane (wanted list) (tab 16 (λ _. pos 0)) → x ≡ step_of a depth r c v m → x ≡ changed_of a depth list m

@@ -6,6 +6,7 @@ ghost use Rattle.pixels.specs.Calls.{add_of, reading_of};
 ghost use Rattle.quick.specs.Quick.{Quick};
 
 use answers::Answer;
+use passes::block::Lanes;
 use pixels::form::Form;
 
 // Whether the narrow passes take a block.
@@ -32,24 +33,16 @@ pub fn is_quick(txtp: usize, tx: usize, bd: u32) -> bool
 }
 
 // How many lines of any other block go through a kernel together: four are fewer instructions than one where both sides are at most 8 and neither kind is DCT.
-fn lanes_of(txtp: usize, tx: usize) -> usize {
-    if 24 < tx {
-        return 1;
-    }
-    if tables::kind::hor(txtp) == 0 {
-        return 1;
-    }
-    if tables::kind::ver(txtp) == 0 {
-        return 1;
+fn lanes_of(txtp: usize, tx: usize) -> Lanes {
+    if 24 < tx || tables::kind::hor(txtp) == 0 || tables::kind::ver(txtp) == 0 {
+        return Lanes::One;
     }
     let s = tables::size::size_of(tx);
-    if 8 < s.w {
-        return 1;
+    if s.w <= 8 && s.h <= 8 {
+        Lanes::Four
+    } else {
+        Lanes::One
     }
-    if 8 < s.h {
-        return 1;
-    }
-    4
 }
 
 // The same form, with as many lanes.
@@ -58,8 +51,7 @@ pub fn better(form: Form, txtp: usize, tx: usize) -> Form
 {
     Form {
         lanes: lanes_of(txtp, tx),
-        rowwise: form.rowwise,
-        strict: form.strict,
+        ..form
     }
 }
 
@@ -76,22 +68,23 @@ fn add_quick(
     requires { Quick txtp tx bd }
     ensures { (result, dst.new) ≡ add_of (reading_of form) dst.old stride coeff.now txtp tx bd }
 {
-    let a = verdicts::judge::judge_add(dst, stride, coeff, txtp, tx, bd, form.strict);
-    if a.number != 0 {
-        return a;
+    match verdicts::judge::judge_add(dst, stride, coeff, txtp, tx, bd, form.strict) {
+        Err(reason) => Answer::from(reason),
+        Ok(()) => {
+            let s = tables::size::size_of(tx);
+            fast::add::add(
+                dst,
+                stride,
+                coeff,
+                s.w,
+                s.h,
+                s.first,
+                s.second,
+                form.rowwise,
+            );
+            answers::finished()
+        }
     }
-    let s = tables::size::size_of(tx);
-    fast::add::add(
-        dst,
-        stride,
-        coeff,
-        s.w,
-        s.h,
-        s.first,
-        s.second,
-        form.rowwise,
-    );
-    a
 }
 
 // The residual of any block added into a picture at its stride; or a refusal, and nothing written.

@@ -7,21 +7,18 @@ ghost use Rattle.tables.specs.Sizes.{cut};
 ghost use Rattle.wide_rows.specs.Lines.{line, Sized};
 ghost use Rattle.narrow.specs.Painted.{Painted};
 ghost use Rattle.fast.specs.Groups.{cell_of, Area, dct_of};
-ghost use Rattle.fast.specs.Gains.{gain_of, Side, twice, residual_by, gains_of, Shown, group_of, residual8, Narrow, Seen, Lent8};
+ghost use Rattle.fast.specs.Gains.{gain_of, Side, twice, residual_by, gains_of, Shown, group_of, residual8, Narrow, Seen, Lent8, Room8};
 ghost use Rattle.pixels.specs.Pixels.{pixel_f};
 ghost use Rattle.pixels.specs.Calls.{filled_by};
 
-// A row of pixels as f32, from its predictions and a row of results; each result serves 2^half pixels.
-fn fill(out: &mut [f32], pred: &[i32], e: [i32; 16], half: u32, shift: u32)
-    requires { (length out.old ≡ length pred.now) × Within 4096 pred.now × Within (2 ^ 30) e × (half ≤ 1) × ((x : ℕ) → x < length out.old → x / 2 ^ half < 16) × (shift ≤ 16) }
-    ensures { out.new ≡ tab (length out.old) (λ x. pixel_f (gain_of (get_or pred.now x (pos 0)) (round_shift shift (get_or e (x / 2 ^ half) (pos 0))))) }
+// A row of pixels as f32, from its predictions and a row of results; each result serves 2^HALF pixels.
+fn fill<const HALF: u32>(out: &mut [f32], pred: &[i32], e: [i32; 16], shift: u32)
+    requires { (length out.old ≡ length pred.now) × Within 4096 pred.now × Within (2 ^ 30) e × (HALF ≤ 1) × ((x : ℕ) → x < length out.old → x / 2 ^ HALF < 16) × (shift ≤ 16) }
+    ensures { out.new ≡ tab (length out.old) (λ x. pixel_f (gain_of (get_or pred.now x (pos 0)) (round_shift shift (get_or e (x / 2 ^ HALF) (pos 0))))) }
 {
-    let n = out.len();
-    let mut x = 0;
-    while x < n {
-        let z = narrow::gained(pred[x], e[x >> half], shift);
-        out[x] = pixels::block_rows::float(z);
-        x += 1;
+    for (x, o) in out.iter_mut().enumerate() {
+        let z = narrow::gained(pred[x], e[x >> HALF], shift);
+        *o = pixels::block_rows::float(z);
     }
 }
 
@@ -31,9 +28,9 @@ fn fill_row(out: &mut [f32], pred: &[i32], e: [i32; 16], half: u32, shift: u32)
     ensures { out.new ≡ tab (length out.old) (λ x. pixel_f (gain_of (get_or pred.now x (pos 0)) (round_shift shift (get_or e (x / 2 ^ half) (pos 0))))) }
 {
     if half == 0 {
-        fill(out, pred, e, 0, shift);
+        fill::<0>(out, pred, e, shift);
     } else {
-        fill(out, pred, e, 1, shift);
+        fill::<1>(out, pred, e, shift);
     }
 }
 
@@ -54,14 +51,12 @@ fn fill_rows(
     requires by_index { (y : ℕ) → y < h → ((y / 2 ^ down) * 16 + 16 ≤ length res.now) × ((l : ℕ) → l < 16 → nat_abs (line res.now l (y / 2 ^ down)) ≤ 2 ^ 30) }
     ensures { Painted (pixel_f (pos 0)) from stride w h (λ y x. pixel_f (gains_of pred.now from stride (residual_by shift across down (λ r x. line res.now x r)) y x)) out.old out.new }
 {
-    let mut y = 0;
-    while y < h {
+    for y in 0..h {
         let a = from + y * stride;
         let b = a + w;
         let r = y >> down;
         let e = narrow::row_of(res, r);
         fill_row(&mut out[a..b], &pred[a..b], e, across, shift);
-        y += 1;
     }
 }
 
@@ -156,8 +151,8 @@ fn run(
     );
 }
 
-// A block of at most 16 by 16.
-fn fill_small(
+// The same, with areas of W places for the block and of T for sixteen lines and their results.
+fn fill_in<const W: usize, const T: usize>(
     out: &mut [f32],
     pred: &[i32],
     coeff: &[i32],
@@ -167,34 +162,12 @@ fn fill_small(
     second: u32,
     rowwise: bool,
 )
-    requires { Narrow w h first coeff.now × (second ≤ 16) × Seen w h w pred.now × (h * w ≤ length out.old) × (w ≤ 16) × (h ≤ 16) }
+    requires { Narrow w h first coeff.now × (second ≤ 16) × Seen w h w pred.now × (h * w ≤ length out.old) × Room8 w h W T }
     ensures { out.new ≡ filled_by w h 8 (residual8 rowwise w h first second coeff.now) out.old pred.now }
 {
-    let mut work = [0i16; 256];
-    let mut t = [0i16; 256];
-    let mut res = [0i32; 256];
-    run(
-        out, pred, &mut work, &mut t, &mut res, coeff, w, h, first, second, rowwise,
-    );
-}
-
-// A block of any size.
-fn fill_large(
-    out: &mut [f32],
-    pred: &[i32],
-    coeff: &[i32],
-    w: usize,
-    h: usize,
-    first: u32,
-    second: u32,
-    rowwise: bool,
-)
-    requires { Narrow w h first coeff.now × (second ≤ 16) × Seen w h w pred.now × (h * w ≤ length out.old) }
-    ensures { out.new ≡ filled_by w h 8 (residual8 rowwise w h first second coeff.now) out.old pred.now }
-{
-    let mut work = [0i16; 1024];
-    let mut t = [0i16; 512];
-    let mut res = [0i32; 512];
+    let mut work = [0i16; W];
+    let mut t = [0i16; T];
+    let mut res = [0i32; T];
     run(
         out, pred, &mut work, &mut t, &mut res, coeff, w, h, first, second, rowwise,
     );
@@ -215,8 +188,8 @@ pub fn fill_block(
     ensures { out.new ≡ filled_by w h 8 (residual8 rowwise w h first second coeff.now) out.old pred.now }
 {
     if w <= 16 && h <= 16 {
-        fill_small(out, pred, coeff, w, h, first, second, rowwise);
+        fill_in::<256, 256>(out, pred, coeff, w, h, first, second, rowwise);
     } else {
-        fill_large(out, pred, coeff, w, h, first, second, rowwise);
+        fill_in::<1024, 512>(out, pred, coeff, w, h, first, second, rowwise);
     }
 }

@@ -22,13 +22,14 @@ fn recon_quick(
     ensures out_after { (result, out.new) ≡ float_of (reading_of form) out.old coeff.now txtp tx bd pred.now }
     ensures exact { result.number ≡ 0 → Exact (reading_of form) out.new coeff.now txtp tx bd pred.now }
 {
-    let a = verdicts::judge::judge_float(out.len(), coeff, txtp, tx, bd, pred, form.strict);
-    if a.number != 0 {
-        return a;
+    match verdicts::judge::judge_float(out.len(), coeff, txtp, tx, bd, pred, form.strict) {
+        Err(reason) => Answer::from(reason),
+        Ok(()) => {
+            let s = tables::size::size_of(tx);
+            crate::filling::fill_block(out, pred, coeff, s.w, s.h, s.first, s.second, form.rowwise);
+            answers::finished()
+        }
     }
-    let s = tables::size::size_of(tx);
-    crate::filling::fill_block(out, pred, coeff, s.w, s.h, s.first, s.second, form.rowwise);
-    a
 }
 
 // Prediction plus residual of any block as f32, row after row; or a refusal, and nothing written.

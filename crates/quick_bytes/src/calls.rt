@@ -22,22 +22,23 @@ fn add_quick(
     requires { Quick txtp tx bd }
     ensures { (result, dst.new) ≡ bytes_of (reading_of form) dst.old stride coeff.now txtp tx bd }
 {
-    let a = byteplanes::judge::judge(dst.len(), stride, coeff, txtp, tx, bd, form.strict);
-    if a.number != 0 {
-        return a;
+    match byteplanes::judge::judge(dst.len(), stride, coeff, txtp, tx, bd, form.strict) {
+        Err(reason) => Answer::from(reason),
+        Ok(()) => {
+            let s = tables::size::size_of(tx);
+            crate::blocks::add_block(
+                dst,
+                stride,
+                coeff,
+                s.w,
+                s.h,
+                s.first,
+                s.second,
+                form.rowwise,
+            );
+            answers::finished()
+        }
     }
-    let s = tables::size::size_of(tx);
-    crate::blocks::add_block(
-        dst,
-        stride,
-        coeff,
-        s.w,
-        s.h,
-        s.first,
-        s.second,
-        form.rowwise,
-    );
-    a
 }
 
 // The residual of any block added into a plane of bytes at its stride; or a refusal, and nothing written.

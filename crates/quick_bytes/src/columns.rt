@@ -22,11 +22,8 @@ fn gain_row(row: &mut [u8], e: [i32; 16], shift: u32)
     requires { Within (2 ^ 30) e × (length row.old ≤ 16) × (shift ≤ 16) }
     ensures { row.new ≡ tab (length row.old) (λ x. reached shift (get_or row.old x 0) (get_or e x (pos 0))) }
 {
-    let n = row.len();
-    let mut x = 0;
-    while x < n {
-        row[x] = gained(row[x], e[x], shift);
-        x += 1;
+    for (x, p) in row.iter_mut().enumerate() {
+        *p = gained(*p, e[x], shift);
     }
 }
 
@@ -43,13 +40,11 @@ fn gain_rows(
     requires { Held from stride w h dst.old × (w ≤ 16) × (shift ≤ 16) × ((y : ℕ) → y < h → (y * 16 + 16 ≤ length res.now) × ((l : ℕ) → l < 16 → nat_abs (line res.now l y) ≤ 2 ^ 30)) }
     ensures { Painted 0 from stride w h (reached_of dst.old from stride shift (λ r x. line res.now x r)) dst.old dst.new }
 {
-    let mut y = 0;
-    while y < h {
+    for y in 0..h {
         let a = from + y * stride;
         let b = a + w;
         let e = narrow::row_of(res, y);
         gain_row(&mut dst[a..b], e, shift);
-        y += 1;
     }
 }
 

@@ -1,15 +1,21 @@
 -- An index that is built from an empty one, the cells of one step after the other. Assumes nothing.
+--     zeros                                    as many zeros, by a rule
 --     Covered, covered_start, covered_more     a loop that has come to step i
-use mathlib.Core.Path.{◌≡◌, sym, ap, ◌∙◌}
+use mathlib.Core.Path.{◌≡◌, refl, sym, ap, ◌∙◌}
 use mathlib.Core.Bool.{cond}
-use mathlib.Core.List.{List}
-use Prim.Native.Nat.{ℕ, suc, ◌+◌, ◌*◌, ◌≤◌, ◌<◌, zero-le}
+use mathlib.Core.List.{List, ◌∷◌}
+use Prim.Native.Nat.{ℕ, zero, suc, ◌+◌, ◌*◌, ◌≤◌, ◌<◌, zero-le}
 use native.Mathlib.Numerals.{add-one}
 use native.Mathlib.Omega.{arith}
+use lib.ListN.{replicate}
 use Rattle.whole.specs.Sums.{tab}
 use Rattle.remain.specs.Remaining.{word, number_at, marks}
 use Rattle.remain.specs.Touch.{last_touch, across, index_of, mended}
 use Rattle.remain.proofs.Index.{mended-index}
+
+pub zeros : (n : ℕ) → replicate {A = ℕ} n 0 ≡ tab n (λ _. 0)
+zeros zero = refl
+zeros (suc n) = ap (λ (l : List ℕ). 0 ∷ l) (zeros n)
 
 pub record Covered (s : List ℕ) (width rows n : ℕ) (x : List ℕ) (i : ℕ) : Type 0 where
   pub most : i ≤ n

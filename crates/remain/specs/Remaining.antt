@@ -7,9 +7,10 @@
 --     marks s n             those of the first n steps, THE NEWEST FIRST
 --     entries s l n         the same with their levels
 --     last p n              the last i below n at which the test p holds, counted from 1; 0 where there is none
+--     counted r              what a search answers, by that count
 --     number_before s i      the number of step i - 1; 0 where i is 0
 --     put_mark, added_to      the four numbers of a step written, and one more step at the end
-use Rattle.std.specs.Prelude.{Bool, cond, List, [], ◌∷◌, ◌++◌, ℕ, zero, suc, ◌+◌, ◌*◌, eqb, ℤ, get_or, take, drop, set}
+use Rattle.std.specs.Prelude.{Bool, cond, Option, Some, None, List, [], ◌∷◌, ◌++◌, ℕ, zero, suc, ◌+◌, ◌*◌, eqb, ℤ, get_or, take, drop, set}
 
 pub record Mark : Type 0 where
   pub number : ℕ
@@ -56,6 +57,10 @@ entries s l (suc n) = entry_at s l n ∷ entries s l n
 unfoldable pub last : (ℕ → Bool) → ℕ → ℕ
 last p zero = 0
 last p (suc n) = cond (p n) (suc n) (last p n)
+
+abbrev pub counted : Option ℕ → ℕ
+counted None = 0
+counted (Some i) = suc i
 
 abbrev pub number_before : List ℕ → ℕ → ℕ
 number_before s zero = 0

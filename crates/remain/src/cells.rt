@@ -1,6 +1,5 @@
 // The last-touch index: row by row, for each 4x4 grid cell, the number of the latest step that shares a sample with it.
 ghost use Rattle.std.specs.Prelude.{◌≡◌, ◌+◌, ◌*◌, ◌/◌, ◌≤◌, ◌<◌, length};
-ghost use Rattle.whole.specs.Sums.{tab};
 ghost use Rattle.remain.specs.Remaining.{count, marks, word as Remaining·word};
 ghost use Rattle.remain.specs.Touch.{across, mended, index_of};
 ghost use Rattle.remain.specs.Bounds.{Lying};
@@ -36,17 +35,6 @@ pub fn mend(
     index[below * w + right] = d;
 }
 
-// An index of an empty history.
-fn clear(index: &mut [u32])
-    ensures { index.new ≡ tab (length index.old) (λ _. 0) }
-{
-    let mut i = 0;
-    while i < index.len() {
-        index[i] = 0;
-        i += 1;
-    }
-}
-
 // The cells of step i, as the first i + 1 steps leave them. The search from the end finds step i at once.
 fn cover(s: &[u32], i: usize, width: usize, rows: usize, index: &mut [u32])
     requires i_bound { (i < 4096) × (length s.now ≡ 16385) }
@@ -65,11 +53,8 @@ pub fn rebuild(s: &[u32], width: usize, rows: usize, index: &mut [u32])
     requires width_bound { (width ≤ 65536) × (rows ≤ 65536) × (length index.old ≡ across rows * across width) }
     ensures { index.new ≡ index_of width rows (marks s.now (count s.now)) }
 {
-    clear(index);
-    let n = word(s, 0);
-    let mut i = 0;
-    while i < n {
+    index.fill(0);
+    for i in 0..word(s, 0) {
         cover(s, i, width, rows, index);
-        i += 1;
     }
 }

@@ -1,5 +1,5 @@
 // Steps put at the list's end, and taken out of it.
-ghost use Rattle.std.specs.Prelude.{◌≡◌, ◌+◌, ◌*◌, ◌-◌, ◌^◌, ◌≤◌, ◌<◌, pos, length};
+ghost use Rattle.std.specs.Prelude.{◌≡◌, ◌+◌, ◌*◌, ◌-◌, ◌^◌, ◌≤◌, ◌<◌, length};
 ghost use Rattle.remain.specs.Remaining.{mark, count, put_mark, put_on};
 ghost use Rattle.remain.specs.Without.{slid, steps_without, levels_without};
 
@@ -22,31 +22,15 @@ pub fn put_levels(l: &mut [i32], i: usize, level: &[i32])
 {
     let a = 16 * i;
     let e = a + 16;
-    whole::copy(&mut l[a..e], level);
+    l[a..e].copy_from_slice(level);
 }
 
-// The numbers of steps from place a + 4 on, up to place e + 4, move down by 4.
-fn slide_steps(s: &mut [u32], a: usize, e: usize)
-    requires { (a ≤ e) × (e + 4 ≤ length s.old) }
-    ensures { s.new ≡ slid 0 a e 4 s.old }
+// The items from place a + N on, up to place e + N, move down by N.
+fn slide<T: Copy, const N: usize>(s: &mut [T], a: usize, e: usize)
+    requires { (a ≤ e) × (e + N ≤ length s.old) }
+    ensures { (z : T) → s.new ≡ slid z a e N s.old }
 {
-    let mut j = a;
-    while j < e {
-        s[j] = s[j + 4];
-        j += 1;
-    }
-}
-
-// The levels from place a + 16 on, up to place e + 16, move down by 16.
-fn slide_levels(l: &mut [i32], a: usize, e: usize)
-    requires { (a ≤ e) × (e + 16 ≤ length l.old) }
-    ensures { l.new ≡ slid (pos 0) a e 16 l.old }
-{
-    let mut j = a;
-    while j < e {
-        l[j] = l[j + 16];
-        j += 1;
-    }
+    s.copy_within(a + N..e + N, a);
 }
 
 // Step i of n is taken out of the list.
@@ -55,7 +39,7 @@ pub fn remove(s: &mut [u32], l: &mut [i32], i: usize, n: usize)
     ensures { (s.new ≡ steps_without i s.old) × (l.new ≡ levels_without i n l.old) }
 {
     let m = n - 1;
-    slide_steps(s, 4 * i + 1, 4 * m + 1);
-    slide_levels(l, 16 * i, 16 * m);
+    slide::<u32, 4>(s, 4 * i + 1, 4 * m + 1);
+    slide::<i32, 16>(l, 16 * i, 16 * m);
     s[0] = m as u32;
 }

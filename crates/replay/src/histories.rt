@@ -1,263 +1,172 @@
-// A case of a call on a history: read, run and answered. Each function reads one slice and hands on what was read. All but
-// the two that run it say whether to go on.
-ghost use Rattle.std.specs.Prelude.{◌≡◌, length};
-ghost use Rattle.replay.specs.Rooms.{Room, WideBytes, Wide, Kept, Short};
+// A case of a call on a history: read, run and answered.
+ghost use Rattle.std.specs.Prelude.{◌*◌, ◌≤◌, length};
 
-use crate::{calls, cases};
+use crate::words;
 use answers::Answer;
-use std::io;
 use std::io::Read;
+use stream::slices::{LIMIT, Stop, TRIMMED, TRIMMED_BYTES};
 use stream::{nums, slices};
 
-// Runs a case on numbers without a sign, which stand in s and x by their bits.
+// A call on a history, with what it is handed besides the plane and the memory.
+#[derive(Clone, Copy)]
+pub enum Call {
+    Step(Place),
+    Undo,
+    Withdraw(u32),
+    CanWithdraw(u32),
+    Rebuild,
+    Fold,
+}
+
+// Where a step goes, and at what depth.
+#[derive(Clone, Copy)]
+pub struct Place {
+    depth: u32,
+    row: usize,
+    column: usize,
+}
+
+// The plane's lines.
+#[derive(Clone, Copy)]
+struct Lines {
+    stride: usize,
+    width: usize,
+    rows: usize,
+}
+
+fn read_lines(input: &mut impl Read) -> Result<Lines, Stop> {
+    let stride = words::read_usize(input)?;
+    let width = words::read_usize(input)?;
+    let rows = words::read_usize(input)?;
+    Ok(Lines {
+        stride,
+        width,
+        rows,
+    })
+}
+
+// Runs a call.
 fn run(
-    call: u64,
-    words: [u64; 6],
-    a: &[i32],
-    b: &mut [i32],
-    s: &mut [i32],
-    l: &mut [i32],
-    x: &mut [i32],
+    call: Call,
+    lines: Lines,
+    level: &[i32],
+    plane: &mut [i32],
     steps: &mut [u32],
+    levels: &mut [i32],
     index: &mut [u32],
-) -> Answer
-    requires { (length s.old ≡ length steps.old) × (length x.old ≡ length index.old) }
-{
-    nums::unsigned(s, steps);
-    nums::unsigned(x, index);
-    let r = calls::run_history(call, words, a, b, steps, l, index);
-    nums::resigned(steps, s);
-    nums::resigned(index, x);
-    r
-}
-
-// The same in rooms for these numbers.
-fn run_in(
-    call: u64,
-    words: [u64; 6],
-    a: &[i32],
-    b: &mut [i32],
-    s: &mut [i32],
-    l: &mut [i32],
-    x: &mut [i32],
-    steps: &mut [u32],
-    index: &mut [u32],
-) -> Answer
-    requires { Short s.old × Short x.old × Wide steps.old × Wide index.old }
-{
-    let n = s.len();
-    let m = x.len();
-    run(call, words, a, b, s, l, x, &mut steps[..n], &mut index[..m])
-}
-
-// Writes two slices of the memory of a history.
-fn write_two(rt: &impl Print, bytes: &mut [u8], l: &[i32], x: &[i32]) -> io::Result<()>
-    requires { Kept bytes.old l.now × Kept bytes.old x.now }
-{
-    slices::write_trimmed(rt, bytes, l)?;
-    slices::write_trimmed(rt, bytes, x)
-}
-
-// Writes the memory of a history.
-fn write_memory(
-    rt: &impl Print,
-    bytes: &mut [u8],
-    s: &[i32],
-    l: &[i32],
-    x: &[i32],
-) -> io::Result<()>
-    requires { Kept bytes.old s.now × Kept bytes.old l.now × Kept bytes.old x.now }
-{
-    slices::write_trimmed(rt, bytes, s)?;
-    write_two(rt, bytes, l, x)
-}
-
-// Writes what a call writes.
-fn write_all(
-    rt: &impl Print,
-    call: u64,
-    bytes: &mut [u8],
-    b: &[i32],
-    s: &[i32],
-    l: &[i32],
-    x: &[i32],
-) -> io::Result<()>
-    requires { Kept bytes.old b.now × Kept bytes.old s.now × Kept bytes.old l.now × Kept bytes.old x.now }
-{
+) -> Answer {
+    let Lines {
+        stride,
+        width,
+        rows,
+    } = lines;
     match call {
-        31 => Ok(()),
-        32 => slices::write_trimmed(rt, bytes, x),
-        33 => write_memory(rt, bytes, s, l, x),
-        _ => {
-            slices::write_slice(rt, bytes, b)?;
-            write_memory(rt, bytes, s, l, x)
-        }
+        Call::Step(Place { depth, row, column }) => history::history_step(
+            depth, plane, stride, width, rows, row, column, level, steps, levels, index,
+        ),
+        Call::Undo => history::history_undo(plane, stride, width, rows, steps, levels, index),
+        Call::Withdraw(number) => history::history_withdraw(
+            plane, stride, width, rows, number, steps, levels, index,
+        ),
+        Call::CanWithdraw(number) => history::history_can_withdraw(
+            plane, stride, width, rows, number, steps, levels, index,
+        ),
+        Call::Rebuild => history::history_rebuild(plane, stride, width, rows, steps, levels, index),
+        Call::Fold => folding_code::history_fold(plane, stride, width, rows, steps, levels, index),
     }
 }
 
-// Runs and answers a case.
+// Runs and answers a case. Steps and index stand in the stream as signed numbers, by their bits.
 fn answer(
     rt: &impl Print,
-    call: u64,
-    words: [u64; 6],
+    call: Call,
+    lines: Lines,
     bytes: &mut [u8],
-    a: &[i32],
-    b: &mut [i32],
-    s: &mut [i32],
-    l: &mut [i32],
-    x: &mut [i32],
-) -> io::Result<bool>
-    requires { Kept bytes.old b.old × Kept bytes.old s.old × Kept bytes.old l.old × Kept bytes.old x.old × Short s.old × Short x.old }
+    level: &[i32],
+    plane: &mut [i32],
+    steps: &mut [i32],
+    levels: &mut [i32],
+    index: &mut [i32],
+) -> Result<(), Stop>
+    requires plane_bytes { 4 * length plane.old ≤ length bytes.old }
+    requires steps_bytes { 4 * length steps.old ≤ length bytes.old }
+    requires levels_bytes { 4 * length levels.old ≤ length bytes.old }
+    requires index_bytes { 4 * length index.old ≤ length bytes.old }
+    requires steps_short { length steps.old ≤ 70000 }
+    requires index_short { length index.old ≤ 70000 }
 {
-    let mut steps = [0u32; 70000];
-    let mut index = [0u32; 70000];
-    let r = run_in(call, words, a, b, s, l, x, &mut steps, &mut index);
+    let mut s = [0u32; TRIMMED];
+    let mut x = [0u32; TRIMMED];
+    let own_steps = &mut s[..steps.len()];
+    let own_index = &mut x[..index.len()];
+    nums::unsigned(steps, own_steps);
+    nums::unsigned(index, own_index);
+    let r = run(call, lines, level, plane, own_steps, levels, own_index);
+    nums::resigned(own_steps, steps);
+    nums::resigned(own_index, index);
     slices::write_answer(rt, r)?;
-    write_all(rt, call, bytes, b, s, l, x)?;
-    Ok(true)
-}
-
-// Reads the index.
-fn index(
-    input: &mut impl Read,
-    rt: &impl Print,
-    call: u64,
-    words: [u64; 6],
-    bytes: &mut [u8],
-    a: &[i32],
-    b: &mut [i32],
-    s: &mut [i32],
-    l: &mut [i32],
-    x: &mut [i32],
-) -> io::Result<bool>
-    requires { WideBytes bytes.old × Kept bytes.old b.old × Kept bytes.old s.old × Kept bytes.old l.old × Short s.old × Wide x.old }
-{
-    let n = slices::read_trimmed(input, bytes, x)?;
-    if slices::TRIMMED < n {
-        return cases::broken(rt);
+    if matches!(call, Call::Step(_) | Call::Undo | Call::Withdraw(_)) {
+        slices::write_slice(rt, bytes, plane)?;
     }
-    answer(rt, call, words, bytes, a, b, s, l, &mut x[..n])
-}
-
-// Reads the levels of the history.
-fn levels(
-    input: &mut impl Read,
-    rt: &impl Print,
-    call: u64,
-    words: [u64; 6],
-    bytes: &mut [u8],
-    a: &[i32],
-    b: &mut [i32],
-    s: &mut [i32],
-    l: &mut [i32],
-    x: &mut [i32],
-) -> io::Result<bool>
-    requires { WideBytes bytes.old × Kept bytes.old b.old × Kept bytes.old s.old × Short s.old × Wide l.old × Wide x.old }
-{
-    let n = slices::read_trimmed(input, bytes, l)?;
-    if slices::TRIMMED < n {
-        return cases::broken(rt);
+    if !matches!(call, Call::CanWithdraw(_) | Call::Rebuild) {
+        slices::write_trimmed(rt, bytes, steps)?;
+        slices::write_trimmed(rt, bytes, levels)?;
     }
-    index(input, rt, call, words, bytes, a, b, s, &mut l[..n], x)
-}
-
-// Reads the steps.
-fn steps(
-    input: &mut impl Read,
-    rt: &impl Print,
-    call: u64,
-    words: [u64; 6],
-    bytes: &mut [u8],
-    a: &[i32],
-    b: &mut [i32],
-    s: &mut [i32],
-    l: &mut [i32],
-    x: &mut [i32],
-) -> io::Result<bool>
-    requires { WideBytes bytes.old × Kept bytes.old b.old × Wide s.old × Wide l.old × Wide x.old }
-{
-    let n = slices::read_trimmed(input, bytes, s)?;
-    if slices::TRIMMED < n {
-        return cases::broken(rt);
+    if !matches!(call, Call::CanWithdraw(_)) {
+        slices::write_trimmed(rt, bytes, index)?;
     }
-    levels(input, rt, call, words, bytes, a, b, &mut s[..n], l, x)
+    Ok(())
 }
 
-// Reads the plane.
-fn plane(
-    input: &mut impl Read,
-    rt: &impl Print,
-    call: u64,
-    words: [u64; 6],
-    bytes: &mut [u8],
-    a: &[i32],
-    b: &mut [i32],
-    s: &mut [i32],
-    l: &mut [i32],
-    x: &mut [i32],
-) -> io::Result<bool>
-    requires { WideBytes bytes.old × Room b.old × Wide s.old × Wide l.old × Wide x.old }
-{
-    let n = slices::read_slice(input, bytes, b)?;
-    if slices::LIMIT < n {
-        return cases::broken(rt);
-    }
-    steps(input, rt, call, words, bytes, a, &mut b[..n], s, l, x)
-}
-
-// Reads the levels of a step; no other call has them.
-fn read_level(
-    input: &mut impl Read,
-    call: u64,
-    bytes: &mut [u8],
-    a: &mut [i32],
-) -> io::Result<usize>
-    requires { WideBytes bytes.old × Room a.old }
-{
-    match call {
-        28 => slices::read_slice(input, bytes, a),
-        _ => Ok(0),
-    }
-}
-
-// Reads the first slice.
-fn level(
-    input: &mut impl Read,
-    rt: &impl Print,
-    call: u64,
-    words: [u64; 6],
-    bytes: &mut [u8],
-    a: &mut [i32],
-    b: &mut [i32],
-    s: &mut [i32],
-    l: &mut [i32],
-    x: &mut [i32],
-) -> io::Result<bool>
-    requires { WideBytes bytes.old × Room a.old × Room b.old × Wide s.old × Wide l.old × Wide x.old }
-{
-    let n = read_level(input, call, bytes, a)?;
-    if slices::LIMIT < n {
-        return cases::broken(rt);
-    }
-    plane(input, rt, call, words, bytes, &a[..n], b, s, l, x)
-}
-
-// Reads and answers a case after its words.
-pub fn case(
-    input: &mut impl Read,
-    rt: &impl Print,
-    call: u64,
-    words: [u64; 6],
-    a: &mut [i32],
-    b: &mut [i32],
-) -> io::Result<bool>
-    requires { Room a.old × Room b.old }
-{
-    let mut bytes = [0u8; 280000];
-    let mut s = [0i32; 70000];
-    let mut l = [0i32; 70000];
-    let mut x = [0i32; 70000];
-    level(
-        input, rt, call, words, &mut bytes, a, b, &mut s, &mut l, &mut x,
+// Reads a case after its words, runs and answers it.
+fn case(input: &mut impl Read, rt: &impl Print, call: Call, lines: Lines) -> Result<(), Stop> {
+    let mut bytes = [0u8; TRIMMED_BYTES];
+    let mut a = [0i32; LIMIT];
+    let mut b = [0i32; LIMIT];
+    let mut s = [0i32; TRIMMED];
+    let mut l = [0i32; TRIMMED];
+    let mut x = [0i32; TRIMMED];
+    let level = match call {
+        Call::Step(_) => slices::read_slice(input, &mut bytes, &mut a)?,
+        _ => 0,
+    };
+    let plane = slices::read_slice(input, &mut bytes, &mut b)?;
+    let steps = slices::read_trimmed(input, &mut bytes, &mut s)?;
+    let levels = slices::read_trimmed(input, &mut bytes, &mut l)?;
+    let index = slices::read_trimmed(input, &mut bytes, &mut x)?;
+    answer(
+        rt,
+        call,
+        lines,
+        &mut bytes,
+        &a[..level],
+        &mut b[..plane],
+        &mut s[..steps],
+        &mut l[..levels],
+        &mut x[..index],
     )
+}
+
+// A case of a step, which has its depth before the lines and its place behind them.
+pub fn step(input: &mut impl Read, rt: &impl Print) -> Result<(), Stop> {
+    let depth = words::read_u32(input)?;
+    let lines = read_lines(input)?;
+    let row = words::read_usize(input)?;
+    let column = words::read_usize(input)?;
+    case(input, rt, Call::Step(Place { depth, row, column }), lines)
+}
+
+// A case of a call that is handed the lines alone.
+pub fn plain(input: &mut impl Read, rt: &impl Print, call: Call) -> Result<(), Stop> {
+    let lines = read_lines(input)?;
+    case(input, rt, call, lines)
+}
+
+// A case of a call that is handed the number of a step besides.
+pub fn numbered(input: &mut impl Read, rt: &impl Print, call: fn(u32) -> Call) -> Result<(), Stop>
+    requires { IsAlwaysCallable call }
+{
+    let lines = read_lines(input)?;
+    let number = words::read_u32(input)?;
+    case(input, rt, call(number), lines)
 }

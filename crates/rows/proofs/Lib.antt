@@ -3,3 +3,4 @@
 --     Shorts     numbers that 16 bits hold
 pub mod Front
 pub mod Shorts
+pub mod Dots

@@ -1,54 +1,35 @@
 -- Numbers that 16 bits hold. Assumes nothing.
---     short-by        a number that passes both tests is such a number
---     all_more        one number more
---     cast16-fits     its cast from 16 bits to 32
---     turn16          a turn of a sum of products that reads it from 16 bits; sum16-is: what the turn leaves
-use mathlib.Core.Path.{◌≡◌, sym, ap, ◌∙◌, subst}
-use mathlib.Core.Bool.{false}
-use mathlib.Core.List.{List}
-use Prim.Native.Nat.{ℕ, ◌+◌, ◌*◌, ◌^◌, ◌<◌}
-use native.Mathlib.Decide.{ℕ_discrete}
+--     short-by        a number that passes the test is such a number
+--     none_long       where no number fails it, all are such
+use mathlib.Core.Path.{◌≡◌, refl, sym, ◌∙◌}
+use mathlib.Core.Bool.{Bool, true, false, not, ◌&&◌, cond}
+use mathlib.Core.List.{List, [], ◌∷◌}
+use Prim.Native.Nat.{ℕ, zero, suc, ◌+◌}
 use native.Mathlib.Nat as N
 use native.Mathlib.Omega.{arith}
-use borrow.Author.Tests.{ltb-false}
-use lib.Arith.{lt_of_le-ne}
-use lib.IntN.{ℤ, pos, negsuc, ◌+ℤ◌, ◌*ℤ◌, nat_abs}
-use lib.ListN.{get_or}
-use lib.Signed.{mag, lt_z}
-use mir.Syntax.{w8, w16, w32}
-use mir.Val.{SFits, to_z, of_z}
-use mir.ValLaws.{to_z-of_z}
-use mir.Facts.{sfits_widen}
-use Rattle.whole.proofs.MulAdd.{Turn, sum_is}
-use Rattle.rows.specs.Short.{Short}
+use borrow.Author.Tests.{leb-true}
+use lib.Dec.{leb}
+use lib.IntN.{ℤ, pos, negsuc}
+use Rattle.std.specs.List.{count_by}
+use Rattle.std.proofs.lemmas.List.Sums.{sum_by-cons}
+use Rattle.rows.specs.Short.{Short, is_short, AllShort}
 
-pub short-by : (z : ℤ) → lt_z z (negsuc 32767) ≡ false → lt_z (pos 32767) z ≡ false → Short z
-short-by (pos n) l h = omega (arith, ltb-false 32767 n h)
-short-by (negsuc n) l h = omega (arith, ltb-false 32767 n l)
+left : (a : Bool) → (a && true) ≡ true → a ≡ true
+left true e = refl
+left false e = e
 
-abbrev pub ShortTo : List ℤ → ℕ → Type 0
-ShortTo xs n = (k : ℕ) → k < n → Short (get_or xs k (pos 0))
+pub short-by : (z : ℤ) → is_short z ≡ true → Short z
+short-by (pos n) e = omega (arith, leb-true n 32767 e)
+short-by (negsuc n) e = omega (arith, leb-true n 32767 (left (leb n 32767) e))
 
-pub all_more : (xs : List ℤ) (i n b : ℕ) → (n ≡ 0 → ShortTo xs i) → (b ≡ 0 → Short (get_or xs i (pos 0))) → n + b ≡ 0 → ShortTo xs (i + 1)
-all_more xs i n b p q e k l = by_place (ℕ_discrete k i)
-  where
-    by_place : Dec (k ≡ i) → Short (get_or xs k (pos 0))
-    by_place (yes f) = subst (λ (j : ℕ). Short (get_or xs j (pos 0))) (sym f) (q (omega arith))
-    by_place (no f) = p (omega arith) k (lt_of_le-ne (omega arith) f)
+passed : (b : Bool) (n : ℕ) → cond (not b) 1 0 + n ≡ 0 → (b ≡ true) × (n ≡ 0)
+passed true n e = (refl, omega arith)
+passed false n e = absurd (omega arith)
 
-abbrev pub half : ℤ → ℤ
-half x = to_z w16 (of_z w16 x)
+split : (x : ℤ) (xs : List ℤ) → count_by (λ z. not (is_short z)) (x ∷ xs) ≡ 0 → (is_short x ≡ true) × (count_by (λ z. not (is_short z)) xs ≡ 0)
+split x xs e = passed (is_short x) (count_by (λ z. not (is_short z)) xs) (sym (sum_by-cons (λ z. cond (not (is_short z)) 1 0) x xs) ∙ e)
 
-module _ (x : ℤ) (f : mag x < 2 ^ 15) where
-  half_is : half x ≡ x
-  half_is = to_z-of_z w16 x (record { sfits = f })
-
-  pub cast16-fits : SFits w32 (half x)
-  cast16-fits = rw half_is (sfits_widen {w = w16} tt (record { sfits = f }))
-
-  module _ (a m z : ℤ) (table : mag a < 2 ^ 7) (sum : m ≡ z) (room : nat_abs z + nat_abs a * nat_abs x < 2 ^ 31) where
-    pub turn16 : Turn a (half x) m z
-    turn16 = subst (λ (v : ℤ). Turn a v m z) (sym half_is) (record { table = table; input = N.lt_of_lt_of_le f (N.le_of_lt (omega arith)); sum = sum; room = room })
-
-    pub sum16-is : to_z w32 (of_z w32 (m +ℤ to_z w32 (of_z w32 (to_z w32 (of_z w32 (to_z w8 (of_z w8 a))) *ℤ to_z w32 (of_z w32 (half x)))))) ≡ z +ℤ a *ℤ x
-    sum16-is = sum_is turn16 ∙ ap (λ v. z +ℤ a *ℤ v) half_is
+pub none_long : (xs : List ℤ) → count_by (λ z. not (is_short z)) xs ≡ 0 → AllShort xs
+none_long [] e k l = absurd (N.not-suc-le-zero l)
+none_long (x ∷ xs) e zero l = short-by x (split x xs e).0
+none_long (x ∷ xs) e (suc k) l = none_long xs (split x xs e).1 k (N.le_of_suc-le-suc l)

@@ -11,11 +11,8 @@ pub fn odds(s: &[i32], out: &mut [i32])
     requires { length s.now ≡ length out.old + length out.old }
     ensures { out.new ≡ tab (length out.old) (λ i. get_or s.now (i + i + 1) (pos 0)) }
 {
-    let mut i = 0;
-    while i < out.len() {
-        let j = i + i + 1;
-        out[i] = s[j];
-        i += 1;
+    for (i, odd) in out.iter_mut().enumerate() {
+        *odd = s[i + i + 1];
     }
 }
 
@@ -24,11 +21,8 @@ pub fn evens(c: &mut [i32], n: usize)
     requires { length c.old ≡ n + n }
     ensures { take n c.new ≡ tab n (λ i. get_or c.old (i + i) (pos 0)) }
 {
-    let mut i = 0;
-    while i < n {
-        let j = i + i;
-        c[i] = c[j];
-        i += 1;
+    for i in 0..n {
+        c[i] = c[i + i];
     }
 }
 
@@ -40,12 +34,10 @@ pub fn fold(out: &mut [i32], odd: &[i32])
 {
     let h = odd.len();
     let n = h + h;
-    let mut k = 0;
-    while k < h {
+    for k in 0..h {
         let even = out[k];
         out[k] = even + odd[k];
         out[n - 1 - k] = even - odd[k];
-        k += 1;
     }
 }
 

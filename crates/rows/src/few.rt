@@ -17,7 +17,7 @@ fn two(x: i32, u: i8, y: i32, v: i8) -> i32
     requires { (nat_abs x ≤ 2 ^ 19) × (nat_abs y ≤ 2 ^ 19) }
     ensures { (result ≡ x *ℤ u +ℤ y *ℤ v) × (nat_abs result ≤ 2 ^ 27) }
 {
-    x * u as i32 + y * v as i32
+    x * i32::from(u) + y * i32::from(v)
 }
 
 // The DCT of 2h numbers of which at most four are live, by the head of its table: the even inputs and the odd ones, joined.
@@ -30,12 +30,10 @@ pub fn head(c: &mut [i32], t: &[i8], h: usize, live: usize)
     let c2 = upto(&c[..], 2, live);
     let c3 = upto(&c[..], 3, live);
     let n = h + h;
-    let mut m = 0;
-    while m < h {
+    for m in 0..h {
         let even = two(c0, 64, c2, t[h + m]);
         let odd = two(c1, t[m], c3, t[n + m]);
         c[m] = even + odd;
         c[n - 1 - m] = even - odd;
-        m += 1;
     }
 }

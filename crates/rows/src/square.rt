@@ -4,8 +4,8 @@ ghost use Rattle.whole.specs.Sums.{tab, dense, flipped};
 ghost use Rattle.rows.specs.Rows.{Rows};
 ghost use Rattle.rows.specs.Short.{AllShort};
 
-use crate::short::{long_ones, short_products, shorten};
-use crate::sums::{copy_back, products};
+use crate::short::{long_ones, shorten};
+use crate::sums::products;
 
 // Row i of the table times the numbers in the place of number i.
 fn rows(c: &mut [i32], mat: &[i8])
@@ -14,7 +14,7 @@ fn rows(c: &mut [i32], mat: &[i8])
 {
     let n = c.len();
     let mut s = [0i32; 16];
-    whole::copy(&mut s[..n], &c[..]);
+    s[..n].copy_from_slice(&c[..]);
     products(mat, &s[..n], c);
 }
 
@@ -25,7 +25,7 @@ fn short_rows(c: &mut [i32], mat: &[i8])
 {
     let mut s = [0i16; 16];
     shorten(&mut s, &c[..]);
-    short_products(mat, &s, c);
+    products(mat, &s, c);
 }
 
 // The same of any sixteen numbers: at depth 8 the clamp makes them short.
@@ -55,14 +55,9 @@ pub fn rows_of(c: &mut [i32], mat: &[i8])
 
 // The numbers from the last to the first where flip is set, else as they are.
 pub fn turn(c: &mut [i32], flip: bool)
-    requires { length c.old ≤ 16 }
     ensures { c.new ≡ tab (length c.old) (λ k. get_or c.old (flipped flip (length c.old) k) (pos 0)) }
 {
-    if !flip {
-        return;
+    if flip {
+        c.reverse();
     }
-    let n = c.len();
-    let mut s = [0i32; 16];
-    whole::copy(&mut s[..n], &c[..]);
-    copy_back(c, &s[..n]);
 }

@@ -1,42 +1,30 @@
 -- Samples, and blocks that stand on a screen. Assumes nothing.
---     below-zero, not-below       a number by the test of its sign
---     natural-read                the same of a number that the machine read
+--     natural-read                a number that the machine read, where it is not below 0
 --     stands-is, block-fits       a block that stands: its last row and its last column lie on the screen; so does its last sample in the plane
---     less-side                   a test of a difference is one of a sum
 --     possible-is                 what a screen that may be has
 --     few-samples, few-fits       the samples of a screen fit their room, and their number fits its type
 --     screen-part                 they are as many as the screen has
---     block_same                  blocks with the same arguments are the same
 --     same_bits                   numbers with the same bits are the same
 --     Agreed                      the first i numbers of two lists are the same: agreed-none, agreed-more; differing, alike: a loop that stops, and one that doesn't
-use mathlib.Core.Path.{◌≡◌, refl, sym, ap, subst, ◌∙◌}
-use mathlib.Core.Bool.{Bool, true, false, ◌&&◌}
+use mathlib.Core.Path.{◌≡◌, sym, ap, subst, ◌∙◌}
+use mathlib.Core.Bool.{true, ◌&&◌}
 use mathlib.Core.List.{List}
-use Prim.Native.Nat.{ℕ, ◌+◌, ◌*◌, ◌-◌, ◌≤◌, ◌<◌}
+use Prim.Native.Nat.{ℕ, ◌+◌, ◌*◌, ◌≤◌, ◌<◌}
 use native.Mathlib.Nat as N
 use native.Mathlib.Nat.{not-suc-le-zero}
 use native.Mathlib.Decide.{ℕ_discrete}
 use native.Mathlib.Omega.{arith}
-use borrow.Author.Tests.{leb-true, leb-false, le-leb, lt-leb}
-use lib.Dec.{T, leb, ltb→lt}
-use lib.IntN.{ℤ, pos, negsuc, nat_abs}
+use borrow.Author.Tests.{leb-true}
+use lib.Dec.{leb}
+use lib.IntN.{ℤ, pos}
 use lib.ListN.{length, get_or, take}
 use lib.Seq.{length-take-le, ext_get_or}
-use lib.Signed.{lt_z, non_neg}
 use mir.Syntax.{w32, w64}
 use mir.Val.{Fits, SFits, to_z, of_z}
 use mir.ValLaws.{to_z-of_z}
 use Rattle.whole.proofs.Tests.{both}
 use Rattle.screen.specs.Screens.{possible_of}
-use Rattle.screen.specs.Planes.{natural, stands_of, block_of, Differ}
-
-pub below-zero : (z : ℤ) → lt_z z (pos 0) ≡ true → 0 ≡ natural z
-below-zero (pos n) e = absurd (not-suc-le-zero (ltb→lt n 0 (subst T (sym e) tt)))
-below-zero (negsuc n) e = refl
-
-pub not-below : (z : ℤ) → lt_z z (pos 0) ≡ false → T (non_neg z) × (nat_abs z ≡ natural z)
-not-below (pos n) e = (tt, refl)
-not-below (negsuc n) e = absurd (subst T e tt)
+use Rattle.screen.specs.Planes.{natural, stands_of, Differ}
 
 pub natural-read : (z : ℤ) → SFits w32 z → natural (to_z w32 (of_z w32 z)) ≡ natural z
 natural-read z f = ap natural (to_z-of_z w32 z f)
@@ -73,15 +61,6 @@ screen-part {w} {h} l a b c = length-take-le (w * h) l (few-samples a b c)
 pub few-fits : {w h : ℕ} → w ≤ 320 → h ≤ 256 → Fits w64 (w * h)
 few-fits a b = record { fits = omega (arith, N.mul-le-mul a b) }
 
-pub block_same : (p : List ℤ) (t w h d : ℕ) {r r' c c' y y' x x' : ℕ} {l l' : List ℤ} → r ≡ r' → c ≡ c' → l ≡ l' → y ≡ y' → x ≡ x'
-    → block_of p t w h r c l y x d ≡ block_of p t w h r' c' l' y' x' d
-block_same p t w h d {r' = r'} {c} {c' = c'} {y} {y' = y'} {x} {l = l} {l' = l'} er ec el et ex =
-    ap (λ r. block_of p t w h r c l y x d) er
-    ∙ ap (λ c. block_of p t w h r' c l y x d) ec
-    ∙ ap (λ l. block_of p t w h r' c' l y x d) el
-    ∙ ap (λ y. block_of p t w h r' c' l' y x d) et
-    ∙ ap (λ x. block_of p t w h r' c' l' y' x d) ex
-
 pub same_bits : {x y : ℤ} → SFits w32 x → SFits w32 y → of_z w32 x ≡ of_z w32 y → x ≡ y
 same_bits {x} {y} f g e = sym (to_z-of_z w32 x f) ∙ ap (to_z w32) e ∙ to_z-of_z w32 y g
 
@@ -108,11 +87,3 @@ alike {a} {b} {i} g h l =
       there = λ q. absurd (omega arith);
       same = λ e. ext_get_or (pos 0) a b l (λ k q. g.same k (omega arith));
     }
-
--- a test of a difference, and of a sum
-pub less-side : (row h height : ℕ) → h ≤ height → leb row (height - h) ≡ leb (row + h) height
-less-side row h height q = go (leb (row + h) height) refl
-  where
-    go : (t : Bool) → leb (row + h) height ≡ t → leb row (height - h) ≡ leb (row + h) height
-    go true e = let l = leb-true (row + h) height e in le-leb row (height - h) (omega arith) ∙ sym e
-    go false e = let l = leb-false (row + h) height e in lt-leb row (height - h) (omega arith) ∙ sym e

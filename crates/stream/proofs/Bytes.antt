@@ -1,17 +1,23 @@
 -- Numbers as bytes. Assumes nothing.
+--     chunk-num             a chunk of four bytes, as `from_le_bytes` reads it, is the number there
+--     put-four              four bytes copied to a place, as `to_le_bytes` made them, put the number there
 --     num-back              what is put into four bytes is read from them
 --     nums-more, nums-done  a loop that puts a list of numbers: one more, and none left
-use mathlib.Core.Path.{◌≡◌, sym, ap, ◌∙◌}
-use mathlib.Core.List.{List}
-use Prim.Native.Nat.{ℕ, ◌+◌, ◌*◌, ◌/◌, ◌%◌, ◌≤◌, ◌<◌}
-use native.Mathlib.Nat.{div-div-eq-div-mul, div-add-mod'}
+use mathlib.Core.Path.{◌≡◌, refl, sym, ap, ◌∙◌}
+use mathlib.Core.List.{List, [], ◌∷◌, ◌++◌}
+use Prim.Native.Nat.{ℕ, zero, suc, ◌-◌, ◌+◌, ◌*◌, ◌/◌, ◌%◌, ◌≤◌, ◌<◌}
+use native.Mathlib.Nat.{add-zero, div-div-eq-div-mul, div-add-mod'}
 use native.Mathlib.Numerals.{add-one}
 use native.Mathlib.Omega.{arith}
 use lib.IntN.{ℤ, pos}
-use lib.ListN.{length, get_or, set, drop, length-set, drop_of_length-le}
-use lib.Seq.{drop-cons, get_or-set_same, get_or-set_other}
+use lib.ListN.{length, get_or, set, take, drop, length-set, drop_of_length-le}
+use lib.Seq.{drop-cons, drop-drop, get_or-set_same, get_or-set_other}
 use mir.Syntax.{w32}
 use mir.Val.{of_z}
+use borrow.Rule.Slice.PartMut.{put_mid}
+use Rattle.std.specs.Int.{from_le_bytes, to_le_bytes}
+use Rattle.std.specs.Simd.{first_chunks}
+use Rattle.std.proofs.lemmas.List.{get_or-drop, get_or-take}
 use Rattle.stream.specs.Bytes.{joined, num_at, num_put, nums_put}
 
 -- the four bytes of a number, and the number
@@ -82,3 +88,44 @@ module _ (b : List ℕ) (zs : List ℤ) (i : ℕ) where
 
   pub nums-done : length zs ≤ i → nums_put b (4 * i) (drop i zs) ≡ b
   nums-done h = ap (nums_put b (4 * i)) (drop_of_length-le zs h)
+
+chunk : (k c : ℕ) (b d : List ℕ) → k < c → get_or (first_chunks 4 c b) k d ≡ take 4 (drop (4 * k) b)
+chunk k zero b d h = absurd (omega arith)
+chunk zero (suc c) b d h = refl
+chunk (suc k) (suc c) b d h =
+    let e : 4 + 4 * k ≡ 4 * suc k = omega arith in
+    chunk k c (drop 4 b) d (omega arith) ∙ ap (take 4) (drop-drop (4 * k) 4 b ∙ ap (λ j. drop j b) e)
+
+le-num : (b : List ℕ) (at : ℕ) → from_le_bytes w32 (take 4 (drop at b)) ≡ num_at b at
+unfolding num_at
+le-num b at =
+    let e : (i : ℕ) → i < 4 → get_or (take 4 (drop at b)) i 0 ≡ get_or b (at + i) 0 = λ i h. get_or-take 4 (drop at b) i 0 h ∙ get_or-drop at b i 0 in
+    omega (arith, e 0 (omega arith), e 1 (omega arith), e 2 (omega arith), e 3 (omega arith), ap (λ j. get_or b j 0) (add-zero at))
+
+pub chunk-num : (n c k : ℕ) (b d : List ℕ) → k < n → n ≤ c → from_le_bytes w32 (get_or (take n (first_chunks 4 c b)) k d) ≡ num_at b (4 * k)
+chunk-num n c k b d h l =
+    ap (from_le_bytes w32) (get_or-take n (first_chunks 4 c b) k d h ∙ chunk k c b d (omega arith)) ∙ le-num b (4 * k)
+
+over : (a : ℕ) (b : List ℕ) (p q r s : ℕ) → a + 4 ≤ length b
+    → take a b ++ ((p ∷ q ∷ r ∷ s ∷ []) ++ drop (suc (suc (suc (suc a)))) b) ≡ set (set (set (set b a p) (suc a) q) (suc (suc a)) r) (suc (suc (suc a))) s
+over a [] p q r s h = absurd (omega arith)
+over zero (v ∷ []) p q r s h = absurd (omega arith)
+over zero (v ∷ w ∷ []) p q r s h = absurd (omega arith)
+over zero (v ∷ w ∷ x ∷ []) p q r s h = absurd (omega arith)
+over zero (v ∷ w ∷ x ∷ y ∷ b) p q r s h = refl
+over (suc a) (v ∷ b) p q r s h = ap (λ l. v ∷ l) (over a b p q r s (omega arith))
+
+pub put-four : (b : List ℕ) (at m n : ℕ) {ys : List ℕ} → at + 4 ≤ length b
+    → ys ≡ to_le_bytes w32 m → m ≡ n → put_mid at (at + 4 - at) b ys ≡ num_put b at n
+unfolding num_put
+put-four b at m n {ys} h e f =
+    let k : at + 4 - at ≡ 4 = omega arith in
+    let one : at + 1 ≡ suc at = omega arith in
+    let two : at + 2 ≡ suc (suc at) = omega arith in
+    let three : at + 3 ≡ suc (suc (suc at)) = omega arith in
+    let end : at + 4 ≡ suc (suc (suc (suc at))) = omega arith in
+    rw (one, two, three)
+    (ap (λ j. take at b ++ (ys ++ drop j (drop at b))) k
+    ∙ ap (λ l. take at b ++ (ys ++ l)) (drop-drop 4 at b ∙ ap (λ j. drop j b) end)
+    ∙ ap (λ l. take at b ++ (l ++ drop (suc (suc (suc (suc at)))) b)) (e ∙ ap (to_le_bytes w32) f)
+    ∙ over at b (n % 256) (n / 256 % 256) (n / 65536 % 256) (n / 16777216 % 256) h)

@@ -2,8 +2,7 @@
 --     kept        what no call has written comes back by the bits that it came with, a NaN's too
 --     kept-all    the same of a list
 --     written     what a call has written, a number from 0 on, comes back by its own bits
---     nan-test    only a NaN differs from itself
-use mathlib.Core.Path.{◌≡◌, refl, sym, ap, ◌∙◌, subst}
+use mathlib.Core.Path.{◌≡◌, refl, sym, ◌∙◌, subst}
 use mathlib.Core.List.{List}
 use mathlib.Core.Bool.{Bool, true, false, not, ◌&&◌, cond}
 use Prim.Native.Nat.{ℕ, ◌*◌, ◌<◌}
@@ -12,9 +11,8 @@ use borrow.Author.Tests.{le-ltb}
 use lib.Dec.{T}
 use lib.IntN.{ℤ, pos}
 use lib.ListN.{length, get_or}
-use lib.Ieee.{Float, nan, inf, fin, binary32, up, down, of_bits, to_bits, nan_bits, is_nan, neg, lt, ne}
+use lib.Ieee.{Float, nan, inf, fin, binary32, up, down, of_bits, to_bits, nan_bits, is_nan, neg, lt}
 use lib.Ieee.Bits.{to_bits-of_bits, nan_bits_is}
-use lib.Ieee.Compare.{differs_from_itself, nan_differs}
 use lib.Ieee.Exact.{HasValue}
 use mir.Syntax.{w32}
 use mir.Val.{SFits, to_z, of_z}
@@ -22,19 +20,6 @@ use mir.Facts.{Fits-of_z, Fits-lt-pow}
 use mir.ValLaws.{to_z-of_z}
 use Rattle.whole.proofs.Fill.{tab-same, tab-at, tab-list}
 use Rattle.stream.specs.Floats.{stand_in, float_of, bits_of, floats_of, bits_back}
-
-pub nan-test : (x : Float) → ne x x ≡ is_nan x
-unfolding is_nan
-nan-test x = go (ne x x) refl
-  where
-    not-nan : (x : Float) → (x ≡ nan → ⊥) → is_nan x ≡ false
-    not-nan nan h = absurd (h refl)
-    not-nan (inf s) h = refl
-    not-nan (fin s m e) h = refl
-
-    go : (t : Bool) → ne x x ≡ t → ne x x ≡ is_nan x
-    go true e = e ∙ sym (ap is_nan (differs_from_itself x (subst T (sym e) tt)))
-    go false e = e ∙ sym (not-nan x (λ p. subst T (sym (sym e ∙ ap (λ y. ne y y) p ∙ nan_differs)) tt))
 
 and-false : (t : Bool) → (t && false) ≡ false
 and-false true = refl

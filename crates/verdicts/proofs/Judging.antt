@@ -1,11 +1,11 @@
 -- The verdicts of the pixel calls, taken apart. Assumes nothing.
 --     flat-search, coeff-none     the search over sw rows of sh coefficients is the search over all of them; where any number passes, none is found
 --     scalable-all                a coefficient that the call accepts may be scaled
---     Kinds, kinds-passed, kinds-opens, kinds-stays     refusals 1 to 4: what an answer of Done tells, when they pass, that they don't depend on what follows
---     Reach, Room, plane-passed, plane-opens, plane-stays, buffers-passed, buffers-opens     so of refusals 5 and 6
+--     Kinds, kinds-passed, kinds-opens, kinds-stays, kinds-err     refusals 1 to 4: what an answer of Done tells, when they pass, that they don't depend on what follows
+--     Reach, Room, plane-passed, plane-opens, plane-stays, plane-err, buffers-passed, buffers-opens     so of refusals 5 and 6
 --     AllFound, coefficients-passed, -opens, -stays, -scalable     so of refusal 7; coefficients that pass may be scaled
 --     add-front, float-front      where refusals 1 to 6 pass, the rest is the verdict
---     Plane, Buffers, add-passed, float-passed     what a verdict of Done tells of the whole call; ready: an accepted block is ready for the passes
+--     Plane, Buffers, add-passed, float-passed, add-done, float-done     what a verdict of Done tells of the whole call; ready: an accepted block is ready for the passes
 --     sides, last_row             the sides of a size; a plane that reaches the last row reaches every row
 use mathlib.Core.Path.{◌≡◌, refl, sym, ap, ◌∙◌, subst}
 use mathlib.Core.Bool.{Bool, true, false, ◌&&◌, cond}
@@ -26,8 +26,10 @@ use Rattle.whole.proofs.Range.{in-range-size, lowest-size, highest-size}
 use Rattle.whole.proofs.Cells.{cell-place, cell_in}
 use Rattle.whole.proofs.Tests.{both, and-true, and_left, and_right, below_at}
 use Rattle.answers.specs.declared.Answer.{Answer}
+use Rattle.answers.specs.declared.Reason.{Reason}
 use Rattle.answers.specs.Answers.{done, refused}
-use Rattle.answers.proofs.Verdicts.{passed, search-passed, search-opens, stays}
+use Rattle.answers.specs.Reasons.{answer_of}
+use Rattle.answers.proofs.Verdicts.{passed, search-passed, search-opens, stays, refuses}
 use Rattle.ranges.specs.Cells.{cell_ok}
 use Rattle.tables.specs.Sizes.{cut, scaled}
 use Rattle.tables.specs.Kinds.{hor_of, ver_of, has_kind}
@@ -94,6 +96,10 @@ module _ (tx txtp depth : ℕ) where
       stays (has_kind (w_of tx) (hor_of txtp)) (refused 4 0 0) _ _ h (λ h.
       stays (has_kind (h_of tx) (ver_of txtp)) (refused 4 0 1) done rest h (λ h. absurd (h refl)))))))
 
+  -- a refusal by name stays what it is
+  pub kinds-err : (rest : Answer) (r : Reason) → answer_of r ≡ kinds tx txtp depth done → answer_of r ≡ kinds tx txtp depth rest
+  kinds-err rest r e = e ∙ kinds-stays rest (λ q. refuses r (ap (λ (a : Answer). a.number) e ∙ q))
+
 -- ---- sides
 side_ok : ℕ → Bool
 side_ok n = leb 4 n && leb n 64
@@ -144,6 +150,9 @@ module _ (w h room : ℕ) where
       sym (stays (leb w stride && leb stride 65536) (refused 5 0 0) _ _ q (λ r.
       stays (leb (cut w * cut h) count) (refused 6 1 0) _ _ r (λ r.
       stays (leb ((h - 1) * stride + w) room) (refused 6 2 0) done rest r (λ r. absurd (r refl)))))
+
+  pub plane-err : (stride count : ℕ) (rest : Answer) (r : Reason) → answer_of r ≡ on_plane w h room stride count done → answer_of r ≡ on_plane w h room stride count rest
+  plane-err stride count rest r e = e ∙ plane-stays stride count rest (λ q. refuses r (ap (λ (a : Answer). a.number) e ∙ q))
 
   pub buffers-passed : (count known : ℕ) (rest : Answer) → (on_buffers w h room count known rest).number ≡ 0 → Room w h room count known × (rest.number ≡ 0)
   buffers-passed count known rest e =
@@ -233,6 +242,13 @@ float-passed refuses room cs txtp tx depth pred e =
     let k = kinds-passed tx txtp depth (on_buffers (w_of tx) (h_of tx) room (length cs) (length pred) (numbers refuses (w_of tx) (h_of tx) depth cs pred (w_of tx))) e in
     let p = buffers-passed (w_of tx) (h_of tx) room (length cs) (length pred) (numbers refuses (w_of tx) (h_of tx) depth cs pred (w_of tx)) k.1 in
     (k.0, record { fits = p.0; all = numbers-passed refuses (w_of tx) (h_of tx) depth k.0.to cs pred (w_of tx) p.1 })
+
+-- the same of a verdict that is Done
+pub add-done : (refuses : Bool) (dst : List ℤ) (stride : ℕ) (cs : List ℤ) (txtp tx depth : ℕ) → done ≡ add_verdict refuses dst stride cs txtp tx depth → Kinds tx txtp depth × Plane (w_of tx) (h_of tx) depth dst stride cs
+add-done refuses dst stride cs txtp tx depth e = add-passed refuses dst stride cs txtp tx depth (ap (λ (a : Answer). a.number) (sym e))
+
+pub float-done : (refuses : Bool) (room : ℕ) (cs : List ℤ) (txtp tx depth : ℕ) (pred : List ℤ) → done ≡ float_verdict refuses room cs txtp tx depth pred → Kinds tx txtp depth × Buffers (w_of tx) (h_of tx) depth room cs pred
+float-done refuses room cs txtp tx depth pred e = float-passed refuses room cs txtp tx depth pred (ap (λ (a : Answer). a.number) (sym e))
 
 -- an accepted block is ready for the passes
 pub ready : {tx txtp depth : ℕ} {cs : List ℤ} → Kinds tx txtp depth → cut (w_of tx) * cut (h_of tx) ≤ length cs → Scalable (scaled (w_of tx) (h_of tx)) (cut (w_of tx) * cut (h_of tx)) cs → Ready tx txtp depth cs

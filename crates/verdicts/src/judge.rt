@@ -1,12 +1,15 @@
 // Which refusal applies: over shared slices, nothing written.
 ghost use Rattle.std.specs.Prelude.{◌≡◌, ℕ, ◌+◌, ◌*◌, ◌≤◌, ◌<◌, length};
-ghost use Rattle.whole.specs.Search.{seek};
 ghost use Rattle.answers.specs.Answers.{done};
+ghost use Rattle.answers.specs.Reasons.{verdict_of};
+ghost use Rattle.ranges.specs.Cells.{Finds};
+ghost use Rattle.tables.specs.declared.size.Size.{Size};
 ghost use Rattle.tables.specs.Kinds.{has_kind};
 ghost use Rattle.tables.specs.Sizes.{cut};
 ghost use Rattle.verdicts.specs.Verdicts.{Sides, kinds, coeff_ok, coefficients, numbers, on_plane, on_buffers, add_verdict, float_verdict};
 
-use answers::Answer;
+use answers::{Reason, Slice};
+use tables::size::Size;
 
 // Whether a length has a kind.
 fn has_kind(n: usize, code: usize) -> bool
@@ -23,32 +26,29 @@ fn has_kind(n: usize, code: usize) -> bool
 }
 
 // Refusals 1 to 4.
-pub fn judge_kinds(txtp: usize, tx: usize, bd: u32) -> Answer
-    ensures { result ≡ kinds tx txtp bd done }
+pub fn judge_kinds(txtp: usize, tx: usize, bd: u32) -> Result<(), Reason>
+    ensures { verdict_of result ≡ kinds tx txtp bd done }
 {
-    if bd < 8 {
-        return answers::refusal(1, 0, 0);
-    }
-    if 12 < bd {
-        return answers::refusal(1, 0, 0);
+    if bd < 8 || 12 < bd {
+        return Err(Reason::Depth);
     }
     if 24 < tx {
-        return answers::refusal(2, 0, 0);
+        return Err(Reason::Size);
     }
     if 255 < txtp {
-        return answers::refusal(3, 0, 0);
+        return Err(Reason::Type);
     }
     let s = tables::size::size_of(tx);
     if !has_kind(s.w, tables::kind::hor(txtp)) {
-        return answers::refusal(4, 0, 0);
+        return Err(Reason::HorizontalKind);
     }
     if !has_kind(s.h, tables::kind::ver(txtp)) {
-        return answers::refusal(4, 0, 1);
+        return Err(Reason::VerticalKind);
     }
-    answers::finished()
+    Ok(())
 }
 
-// The number of the first coefficient out of range, or sw * sh where there is none.
+// The number of the first of sw * sh coefficients out of range.
 fn first_coefficient(
     coeff: &[i32],
     sw: usize,
@@ -56,77 +56,68 @@ fn first_coefficient(
     scale: bool,
     bd: u32,
     strict: bool,
-) -> usize
+) -> Option<usize>
     requires { (bd ≤ 12) × (sw ≤ 32) × (sh ≤ 32) × (sw * sh ≤ length coeff.now) }
-    ensures { result ≡ seek (coeff_ok strict scale bd coeff.now) 0 (sw * sh) }
+    ensures { Finds (coeff_ok strict scale bd coeff.now) (sw * sh) result }
 {
     if strict {
         let lo = ranges::low_end(bd + 7);
         let hi = ranges::high_end(bd + 7);
-        return crate::samples::first_sample(coeff, sh, sh, sw, lo, hi);
+        crate::samples::first_sample(coeff, sh, sh, sw, lo, hi)
+    } else if scale {
+        crate::samples::first_sample(coeff, sh, sh, sw, -11864550, 11864549)
+    } else {
+        None
     }
-    if scale {
-        return crate::samples::first_sample(coeff, sh, sh, sw, -11864550, 11864549);
-    }
-    sw * sh
 }
 
-// Refusal 7, for a block of w by h.
-pub fn judge_coefficients(coeff: &[i32], w: usize, h: usize, bd: u32, strict: bool) -> Answer
-    requires { (bd ≤ 12) × Sides w h × (cut w * cut h ≤ length coeff.now) }
-    ensures { result ≡ coefficients strict w h bd coeff.now done }
+// Refusal 7, for a block of a size.
+pub fn judge_coefficients(coeff: &[i32], s: Size, bd: u32, strict: bool) -> Result<(), Reason>
+    requires { (bd ≤ 12) × Sides s.w s.h × (cut s.w * cut s.h ≤ length coeff.now) }
+    ensures { verdict_of result ≡ coefficients strict s.w s.h bd coeff.now done }
 {
-    let sw = tables::size::cut_of(w);
-    let sh = tables::size::cut_of(h);
-    let k = first_coefficient(coeff, sw, sh, tables::size::is_scaled(w, h), bd, strict);
-    if k < sw * sh {
-        return answers::refusal(7, 1, k);
+    let sw = tables::size::cut_of(s.w);
+    let sh = tables::size::cut_of(s.h);
+    match first_coefficient(coeff, sw, sh, tables::size::is_scaled(s.w, s.h), bd, strict) {
+        Some(place) => Err(Reason::Level(Slice::Read, place)),
+        None => Ok(()),
     }
-    answers::finished()
 }
 
-// Refusals 7 and 8, for a block of w by h at the front of p, its rows stride apart.
+// Refusals 7 and 8, for a block of a size at the front of p, its rows stride apart.
 fn judge_numbers(
     coeff: &[i32],
     p: &[i32],
     stride: usize,
-    w: usize,
-    h: usize,
+    s: Size,
     bd: u32,
     strict: bool,
-) -> Answer
-    requires { (bd ≤ 12) × Sides w h × (cut w * cut h ≤ length coeff.now) × ((r : ℕ) → r < h → r * stride + w ≤ length p.now) }
-    ensures { result ≡ numbers strict w h bd coeff.now p.now stride }
+) -> Result<(), Reason>
+    requires { (bd ≤ 12) × Sides s.w s.h × (cut s.w * cut s.h ≤ length coeff.now) × ((r : ℕ) → r < s.h → r * stride + s.w ≤ length p.now) }
+    ensures { verdict_of result ≡ numbers strict s.w s.h bd coeff.now p.now stride }
 {
-    let a = judge_coefficients(coeff, w, h, bd, strict);
-    if a.number != 0 {
-        return a;
+    judge_coefficients(coeff, s, bd, strict)?;
+    match crate::samples::first_sample(p, stride, s.w, s.h, 0, ranges::high_end(bd)) {
+        Some(i) => Err(Reason::Sample(i / s.w * stride + i % s.w)),
+        None => Ok(()),
     }
-    let i = crate::samples::first_sample(p, stride, w, h, 0, ranges::high_end(bd));
-    if i < h * w {
-        return answers::refusal(8, 2, i / w * stride + i % w);
-    }
-    answers::finished()
 }
 
 // Refusals 5 and 6 of the add call, by a plane of room samples and count coefficients.
-pub fn judge_reach(room: usize, stride: usize, count: usize, w: usize, h: usize) -> Answer
-    requires { Sides w h }
-    ensures { result ≡ on_plane w h room stride count done }
+pub fn judge_reach(room: usize, stride: usize, count: usize, s: Size) -> Result<(), Reason>
+    requires { Sides s.w s.h }
+    ensures { verdict_of result ≡ on_plane s.w s.h room stride count done }
 {
-    if stride < w {
-        return answers::refusal(5, 0, 0);
+    if stride < s.w || 65536 < stride {
+        return Err(Reason::Stride);
     }
-    if 65536 < stride {
-        return answers::refusal(5, 0, 0);
+    if count < tables::size::cut_of(s.w) * tables::size::cut_of(s.h) {
+        return Err(Reason::Length(Slice::Read));
     }
-    if count < tables::size::cut_of(w) * tables::size::cut_of(h) {
-        return answers::refusal(6, 1, 0);
+    if room < (s.h - 1) * stride + s.w {
+        return Err(Reason::Length(Slice::Picture));
     }
-    if room < (h - 1) * stride + w {
-        return answers::refusal(6, 2, 0);
-    }
-    answers::finished()
+    Ok(())
 }
 
 // Refusals 5 to 8 of the add call.
@@ -134,19 +125,15 @@ fn judge_plane(
     dst: &[i32],
     stride: usize,
     coeff: &[i32],
-    w: usize,
-    h: usize,
+    s: Size,
     bd: u32,
     strict: bool,
-) -> Answer
-    requires { (bd ≤ 12) × Sides w h }
-    ensures { result ≡ on_plane w h (length dst.now) stride (length coeff.now) (numbers strict w h bd coeff.now dst.now stride) }
+) -> Result<(), Reason>
+    requires { (bd ≤ 12) × Sides s.w s.h }
+    ensures { verdict_of result ≡ on_plane s.w s.h (length dst.now) stride (length coeff.now) (numbers strict s.w s.h bd coeff.now dst.now stride) }
 {
-    let a = judge_reach(dst.len(), stride, coeff.len(), w, h);
-    if a.number != 0 {
-        return a;
-    }
-    judge_numbers(coeff, dst, stride, w, h, bd, strict)
+    judge_reach(dst.len(), stride, coeff.len(), s)?;
+    judge_numbers(coeff, dst, stride, s, bd, strict)
 }
 
 // Refusals 6 to 8 of the float call, whose output has room numbers.
@@ -154,24 +141,23 @@ fn judge_buffers(
     room: usize,
     coeff: &[i32],
     pred: &[i32],
-    w: usize,
-    h: usize,
+    s: Size,
     bd: u32,
     strict: bool,
-) -> Answer
-    requires { (bd ≤ 12) × Sides w h }
-    ensures { result ≡ on_buffers w h room (length coeff.now) (length pred.now) (numbers strict w h bd coeff.now pred.now w) }
+) -> Result<(), Reason>
+    requires { (bd ≤ 12) × Sides s.w s.h }
+    ensures { verdict_of result ≡ on_buffers s.w s.h room (length coeff.now) (length pred.now) (numbers strict s.w s.h bd coeff.now pred.now s.w) }
 {
-    if coeff.len() < tables::size::cut_of(w) * tables::size::cut_of(h) {
-        return answers::refusal(6, 1, 0);
+    if coeff.len() < tables::size::cut_of(s.w) * tables::size::cut_of(s.h) {
+        return Err(Reason::Length(Slice::Read));
     }
-    if pred.len() < h * w {
-        return answers::refusal(6, 2, 0);
+    if pred.len() < s.h * s.w {
+        return Err(Reason::Length(Slice::Picture));
     }
-    if room < h * w {
-        return answers::refusal(6, 3, 0);
+    if room < s.h * s.w {
+        return Err(Reason::Length(Slice::Output));
     }
-    judge_numbers(coeff, pred, w, w, h, bd, strict)
+    judge_numbers(coeff, pred, s.w, s, bd, strict)
 }
 
 // What the add call answers.
@@ -183,15 +169,11 @@ pub fn judge_add(
     tx: usize,
     bd: u32,
     strict: bool,
-) -> Answer
-    ensures { result ≡ add_verdict strict dst.now stride coeff.now txtp tx bd }
+) -> Result<(), Reason>
+    ensures { verdict_of result ≡ add_verdict strict dst.now stride coeff.now txtp tx bd }
 {
-    let a = judge_kinds(txtp, tx, bd);
-    if a.number != 0 {
-        return a;
-    }
-    let s = tables::size::size_of(tx);
-    judge_plane(dst, stride, coeff, s.w, s.h, bd, strict)
+    judge_kinds(txtp, tx, bd)?;
+    judge_plane(dst, stride, coeff, tables::size::size_of(tx), bd, strict)
 }
 
 // What the float call answers.
@@ -203,13 +185,9 @@ pub fn judge_float(
     bd: u32,
     pred: &[i32],
     strict: bool,
-) -> Answer
-    ensures { result ≡ float_verdict strict room coeff.now txtp tx bd pred.now }
+) -> Result<(), Reason>
+    ensures { verdict_of result ≡ float_verdict strict room coeff.now txtp tx bd pred.now }
 {
-    let a = judge_kinds(txtp, tx, bd);
-    if a.number != 0 {
-        return a;
-    }
-    let s = tables::size::size_of(tx);
-    judge_buffers(room, coeff, pred, s.w, s.h, bd, strict)
+    judge_kinds(txtp, tx, bd)?;
+    judge_buffers(room, coeff, pred, tables::size::size_of(tx), bd, strict)
 }

@@ -2,40 +2,40 @@
 #![tactic(auto)]
 
 ghost use Rattle.std.specs.Prelude.{◌≡◌, length};
-ghost use Rattle.whole.specs.Search.{seek};
+ghost use Rattle.answers.specs.Reasons.{verdict_of};
+ghost use Rattle.ranges.specs.Cells.{Finds};
 ghost use Rattle.wht.specs.Wht.{fwht, iwht};
 ghost use Rattle.wht.specs.Calls.{Sixteen, number_ok, verdict, fwht_of, iwht_of};
 
-use answers::Answer;
+use answers::{Answer, Reason, Slice};
 
 // Blocks of four rows of four, by value: the two transforms.
 pub mod blocks;
 // Sixteen numbers of a slice as a block, and back.
 pub mod slices;
 
-// The index of the first of sixteen numbers outside lo .. hi, or 16.
-pub fn first_bad(l: &[i32], lo: i32, hi: i32) -> usize
+// The first of sixteen numbers outside lo .. hi.
+pub fn find_bad(l: &[i32], lo: i32, hi: i32) -> Option<usize>
     requires { length l.now ≡ 16 }
-    ensures { result ≡ seek (number_ok lo hi l.now) 0 16 }
+    ensures { Finds (number_ok lo hi l.now) 16 result }
 {
-    ranges::first_outside(l, 0, 4, 4, 4, lo, hi)
+    ranges::find_outside(l, 0, 4, 4, 4, lo, hi)
 }
 
-// The refusals 6 and 7 of a call that reads l, slice 1, and writes n numbers, slice 3.
-fn judge(l: &[i32], n: usize, lo: i32, hi: i32) -> Answer
-    ensures { result ≡ verdict lo hi l.now n }
+// The refusals 6 and 7 of a call that reads l and writes n numbers.
+fn judge(l: &[i32], n: usize, lo: i32, hi: i32) -> Result<(), Reason>
+    ensures { verdict_of result ≡ verdict lo hi l.now n }
 {
     if l.len() != 16 {
-        return answers::refusal(6, 1, 0);
+        return Err(Reason::Length(Slice::Read));
     }
     if n != 16 {
-        return answers::refusal(6, 3, 0);
+        return Err(Reason::Length(Slice::Output));
     }
-    let found = first_bad(l, lo, hi);
-    if found < 16 {
-        return answers::refusal(7, 1, found);
+    match find_bad(l, lo, hi) {
+        Some(place) => Err(Reason::Level(Slice::Read, place)),
+        None => Ok(()),
     }
-    answers::finished()
 }
 
 // The levels of sixteen residuals that fwht4x4 accepts.
@@ -62,22 +62,24 @@ pub fn residuals(level: &[i32], resid: &mut [i32])
 pub fn fwht4x4(resid: &[i32], level: &mut [i32]) -> Answer
     ensures { (result, level.new) ≡ fwht_of resid.now level.old }
 {
-    let a = judge(resid, level.len(), -65535, 65535);
-    if a.number != 0 {
-        return a;
+    match judge(resid, level.len(), -65535, 65535) {
+        Err(reason) => Answer::from(reason),
+        Ok(()) => {
+            levels(resid, level);
+            answers::finished()
+        }
     }
-    levels(resid, level);
-    a
 }
 
 // The inverse transform.
 pub fn iwht4x4(level: &[i32], resid: &mut [i32]) -> Answer
     ensures { (result, resid.new) ≡ iwht_of level.now resid.old }
 {
-    let a = judge(level, resid.len(), -262144, 262144);
-    if a.number != 0 {
-        return a;
+    match judge(level, resid.len(), -262144, 262144) {
+        Err(reason) => Answer::from(reason),
+        Ok(()) => {
+            residuals(level, resid);
+            answers::finished()
+        }
     }
-    residuals(level, resid);
-    a
 }

@@ -1,5 +1,5 @@
 -- Rows of the first four inputs, one after another, and what that makes of the lines. Assumes nothing.
---     begun-none, begun_more     no row is begun yet; one row more
+--     begun-none, begun-on     no row is begun yet; one row more
 --     begun, begun-room          all rows are begun: the dense product of four inputs, and its bound
 --     begun-front                the dense product of inputs that are zero past the fourth
 use mathlib.Core.Path.{◌≡◌, refl, sym, ap, ◌∙◌, subst}
@@ -7,6 +7,7 @@ use mathlib.Core.List.{List, [], ◌∷◌, ◌++◌}
 use Prim.Native.Nat.{ℕ, zero, suc, ◌+◌, ◌*◌, ◌-◌, ◌^◌, ◌≤◌, ◌<◌, zero-le, suc-le-suc}
 use native.Mathlib.Nat as N
 use native.Mathlib.Decide.{ℕ_discrete}
+use native.Mathlib.Numerals.{add-one}
 use native.Mathlib.Omega.{arith}
 use lib.Arith.{lt_of_le-ne}
 use lib.IntN.{ℤ, pos, nat_abs, ◌+ℤ◌, ◌-ℤ◌, ◌*ℤ◌, +ℤ_idl, *ℤ-zero}
@@ -23,7 +24,7 @@ module _ {s d h : ℕ} {t w : List ℤ} where
   pub begun-none : {out : List ℤ} → Begun s d h 0 t w out out
   begun-none = record { long = refl; sums = λ l r k q. absurd (N.not-suc-le-zero q); differences = λ l r k q. absurd (N.not-suc-le-zero q); small = λ l r k q. absurd (N.not-suc-le-zero q) }
 
-  pub begun_more : {i : ℕ} {old cur new : List ℤ} → Begun s d h i t w old cur → i < h → Start s d i (h + h - 1 - i) w t cur new → Begun s d h (suc i) t w old new
+  begun_more : {i : ℕ} {old cur new : List ℤ} → Begun s d h i t w old cur → i < h → Start s d i (h + h - 1 - i) w t cur new → Begun s d h (suc i) t w old new
   begun_more {i} {old} {cur} {new} p ih q = record {
     long = q.0.long ∙ p.long;
     sums = λ l r k y. sum l r k y (ℕ_discrete r i);
@@ -51,6 +52,10 @@ module _ {s d h : ℕ} {t w : List ℤ} where
       bound : (l r : ℕ) → l < 16 → r < suc i → Dec (r ≡ i) → nat_abs (E l r) + nat_abs (O l r) ≤ 2 ^ 24 + 1 * 2 ^ 26
       bound l r k y (yes e) = subst (λ (j : ℕ). nat_abs (E l j) + nat_abs (O l j) ≤ 2 ^ 24 + 1 * 2 ^ 26) (sym e) (omega (arith, q.1 l k, q.2 l k))
       bound l r k y (no e) = p.small l r k (lt_of_le-ne (omega arith) e)
+
+  -- the same, counted as a loop counts
+  pub begun-on : {i : ℕ} {old cur new : List ℤ} → Begun s d h i t w old cur → i < h → Start s d i (h + h - 1 - i) w t cur new → Begun s d h (i + 1) t w old new
+  begun-on {i} {old = old} {new = new} p ih q = subst (λ (n : ℕ). Begun s d h n t w old new) (sym (add-one i)) (begun_more p ih q)
 
 -- ---- all rows are begun
 module _ (s d h : ℕ) (t w old new : List ℤ) (q : Begun s d h h t w old new) where

@@ -1,5 +1,5 @@
 -- Rows that are joined with their odd inputs, one after another, and what that makes of the lines. Assumes nothing.
---     doubled-none, doubled-more     no row is joined yet; one row more
+--     doubled-none, doubled-on       no row is joined yet; one row more
 --     doubled-then                   a callee joined the rows from there on
 --     next-asks, next-room           what the next row asks, and what a callee that goes on asks
 --     grown, grown-room              all rows are joined: the dense product of twice as many inputs, and its bound
@@ -9,6 +9,7 @@ use mathlib.Core.List.{List}
 use Prim.Native.Nat.{ℕ, zero, suc, ◌+◌, ◌*◌, ◌-◌, ◌^◌, ◌≤◌, ◌<◌, zero-le}
 use native.Mathlib.Nat as N
 use native.Mathlib.Decide.{ℕ_discrete}
+use native.Mathlib.Numerals.{add-one}
 use native.Mathlib.Omega.{arith}
 use borrow.Author.Tests.{ltb-true, ltb-false}
 use lib.Arith.{lt_of_le-ne}
@@ -31,7 +32,7 @@ module _ {h a b : ℕ} {t w : List ℤ} where
   still : {i : ℕ} {old cur : List ℤ} → Doubled h a i b t w old cur → (r : ℕ) → i ≤ r → r < h → (l : ℕ) → l < 16 → line cur l r ≡ line old l r
   still {i} p r q f l k = (p.others l r k f (λ x y. N.lt_irrefl r (N.lt_of_lt_of_le y q))).0
 
-  pub doubled-more : {i : ℕ} {old cur new : List ℤ} → Doubled h a i b t w old cur → a ≤ i → i < h → Step h b i (h + h - 1 - i) w t cur new → Doubled h a (suc i) b t w old new
+  doubled-more : {i : ℕ} {old cur new : List ℤ} → Doubled h a i b t w old cur → a ≤ i → i < h → Step h b i (h + h - 1 - i) w t cur new → Doubled h a (suc i) b t w old new
   doubled-more {i} {old} {cur} {new} p ai ih s = record {
     long = s.0.long ∙ p.long;
     sums = λ l r k x y. sum l r k x y (ℕ_discrete r i);
@@ -60,6 +61,10 @@ module _ {h a b : ℕ} {t w : List ℤ} where
       bound : (l r : ℕ) → l < 16 → a ≤ r → r < suc i → Dec (r ≡ i) → nat_abs (odd_of h b t w l r) ≤ 2 ^ 26
       bound l r k x y (yes e) = subst (λ (j : ℕ). nat_abs (odd_of h b t w l j) ≤ 2 ^ 26) (sym e) (s.1 l k)
       bound l r k x y (no e) = p.small l r k x (lt_of_le-ne (omega arith) e)
+
+  -- the same, counted as a loop counts
+  pub doubled-on : {i : ℕ} {old cur new : List ℤ} → Doubled h a i b t w old cur → a ≤ i → i < h → Step h b i (h + h - 1 - i) w t cur new → Doubled h a (i + 1) b t w old new
+  doubled-on {i} {old = old} {new = new} p ai ih s = subst (λ (n : ℕ). Doubled h a n b t w old new) (sym (add-one i)) (doubled-more p ai ih s)
 
   pub next-asks : {i v k : ℕ} {old cur : List ℤ} → Doubled h a i b t w old cur → Room v a k old → v ≤ 3 → a ≤ i → i < k → i < h → (h + h) * 16 ≤ length old → b + 15 + (h - 1) * (b + b) < length w → h * h ≤ length t
       → Asks h b i (h + h - 1 - i) cur w t

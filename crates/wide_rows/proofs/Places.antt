@@ -1,10 +1,9 @@
 -- Rows of sixteen in a list, and what is left of them by the functions that write two rows. Assumes nothing.
 --     put_both                                  two rows that callees filled, and every other row as it was
---     wide, bytes2, bytes4, bytes8              weights of 8 bits, read from a table as numbers of 32 bits, are the table's
---     small2, small4, small8                    they are within 2^7
+--     even-weights                              weights 0 and 2 of a column, and 1 and 3
 --     row_count, row_within                     a row that is lent has sixteen numbers, within the bound of the row
 --     started-row                               what `row_of_two` leaves
---     joined-row, joined-long                   what `row_of_four` and `row_of_eight` leave, and `row_of_sixteen`
+--     joined-row, joined-long                   what `row_of` leaves, and `row_of_sixteen`
 use mathlib.Core.Path.{◌≡◌, refl, sym, ap, ◌∙◌, subst}
 use mathlib.Core.Logic.{◌⊎◌, inl, inr}
 use mathlib.Core.List.{List, [], ◌∷◌, ◌++◌}
@@ -15,16 +14,11 @@ use borrow.Rule.Slice.PartMut.{put_mid, same_len_mid}
 use lib.Arith.{lt_of_le-ne}
 use lib.IntN.{ℤ, pos, nat_abs, ◌+ℤ◌, ◌-ℤ◌, ◌*ℤ◌, +ℤ_assoc, +ℤ_idl}
 use lib.ListN.{length, get_or}
-use lib.Signed.{mag}
-use mir.Syntax.{w8}
-use mir.Val.{to_z, of_z}
 use Rattle.whole.specs.Sums.{tab, dot_z, Within}
-use Rattle.whole.proofs.Bounds.{nil, cons, small_at}
 use Rattle.whole.proofs.Fill.{length-tab, tab-at}
 use Rattle.whole.proofs.Cells.{under, row_below}
 use Rattle.whole.proofs.Lent.{lent, lent-count, lent_at, lent-within, part_count, mid-in, mid-below, mid-above}
 use Rattle.wide_rows.specs.Lines.{line, taps, Low, Both, Written, odd_of, Step, Started, Half}
-use Rattle.wide_rows.proofs.Shorts.{word, byte-is, byte-size}
 
 -- ---- two rows that callees filled
 module _ (m : ℕ) (old ys : List ℤ) (fit : m * 16 + 16 ≤ length old) (long : length ys ≡ 16) where
@@ -68,29 +62,11 @@ put_both {m} {z} {f} {g} {old} {ys} {zs} lt fit e d =
     (subst (λ (n : ℕ). Written m z f g old (put_mid (z * 16) n (put_mid (m * 16) 16 old ys) zs)) (sym (N.add-sub_cancel_left (z * 16) 16)) (both-rows m z f g old ys zs lt fit e d))
 
 -- ---- weights
-abbrev pub wide : ℤ → ℤ
-wide a = word (to_z w8 (of_z w8 a))
-
-module _ (a0 a1 : ℤ) (f0 : mag a0 < 2 ^ 7) (f1 : mag a1 < 2 ^ 7) where
-  pub bytes2 : (wide a0 ∷ wide a1 ∷ []) ≡ (a0 ∷ a1 ∷ [])
-  bytes2 = λ i. byte-is a0 f0 i ∷ byte-is a1 f1 i ∷ []
-
-  pub small2 : Within (2 ^ 7) (wide a0 ∷ wide a1 ∷ [])
-  small2 k h = small_at (cons (byte-size a0 f0) (cons (byte-size a1 f1) nil)) k
-
-module _ (a0 a1 a2 a3 : ℤ) (f0 : mag a0 < 2 ^ 7) (f1 : mag a1 < 2 ^ 7) (f2 : mag a2 < 2 ^ 7) (f3 : mag a3 < 2 ^ 7) where
-  pub bytes4 : (wide a0 ∷ wide a1 ∷ wide a2 ∷ wide a3 ∷ []) ≡ (a0 ∷ a1 ∷ a2 ∷ a3 ∷ [])
-  bytes4 = λ i. byte-is a0 f0 i ∷ byte-is a1 f1 i ∷ byte-is a2 f2 i ∷ byte-is a3 f3 i ∷ []
-
-  pub small4 : Within (2 ^ 7) (wide a0 ∷ wide a1 ∷ wide a2 ∷ wide a3 ∷ [])
-  small4 k h = small_at (cons (byte-size a0 f0) (cons (byte-size a1 f1) (cons (byte-size a2 f2) (cons (byte-size a3 f3) nil)))) k
-
-module _ (a0 a1 a2 a3 a4 a5 a6 a7 : ℤ) (f0 : mag a0 < 2 ^ 7) (f1 : mag a1 < 2 ^ 7) (f2 : mag a2 < 2 ^ 7) (f3 : mag a3 < 2 ^ 7) (f4 : mag a4 < 2 ^ 7) (f5 : mag a5 < 2 ^ 7) (f6 : mag a6 < 2 ^ 7) (f7 : mag a7 < 2 ^ 7) where
-  pub bytes8 : (wide a0 ∷ wide a1 ∷ wide a2 ∷ wide a3 ∷ wide a4 ∷ wide a5 ∷ wide a6 ∷ wide a7 ∷ []) ≡ (a0 ∷ a1 ∷ a2 ∷ a3 ∷ a4 ∷ a5 ∷ a6 ∷ a7 ∷ [])
-  bytes8 = λ i. byte-is a0 f0 i ∷ byte-is a1 f1 i ∷ byte-is a2 f2 i ∷ byte-is a3 f3 i ∷ byte-is a4 f4 i ∷ byte-is a5 f5 i ∷ byte-is a6 f6 i ∷ byte-is a7 f7 i ∷ []
-
-  pub small8 : Within (2 ^ 7) (wide a0 ∷ wide a1 ∷ wide a2 ∷ wide a3 ∷ wide a4 ∷ wide a5 ∷ wide a6 ∷ wide a7 ∷ [])
-  small8 k h = small_at (cons (byte-size a0 f0) (cons (byte-size a1 f1) (cons (byte-size a2 f2) (cons (byte-size a3 f3) (cons (byte-size a4 f4) (cons (byte-size a5 f5) (cons (byte-size a6 f6) (cons (byte-size a7 f7) nil)))))))) k
+pub even-weights : (s m : ℕ) (t : List ℤ) → taps 2 m (s + s) t ≡ get_or t m (pos 0) ∷ get_or t (m + s + s) (pos 0) ∷ []
+even-weights s m t = ap (λ q. get_or t m (pos 0) ∷ get_or t q (pos 0) ∷ []) (place s m)
+  where
+    place : (s m : ℕ) → m + (s + s) ≡ m + s + s
+    place s m = omega arith
 
 -- ---- a row that is lent
 module _ (m : ℕ) (out : List ℤ) (fit : m * 16 + 16 ≤ length out) where

@@ -6,10 +6,3 @@ mod text;
 
 pub use decimal::numbers;
 pub use text::{line_end, pass, same};
-
-// How many numbers were read, and whether every word was one.
-#[derive(Clone, Copy)]
-pub struct Found {
-    pub count: usize,
-    pub good: bool,
-}

@@ -1,6 +1,6 @@
 -- `av1_wht::divided` meets its contract: the loop fills the places with the numbers divided by 4. Assumes nothing.
 use mathlib.Core.List.{List}
-use Prim.Native.Nat.{ℕ, ◌-◌, ◌^◌}
+use Prim.Native.Nat.{ℕ, ◌^◌}
 use native.Mathlib.Omega.{arith}
 use lib.Dec.{lit<}
 use lib.IntN.{ℤ}
@@ -25,18 +25,9 @@ shr t h i =
 pub loop-i-init : goal.loop-i-init
 loop-i-init c = fill_start c.requires.0
 
-pub bounds-t-i : goal.bounds-t-i
-bounds-t-i c = omega (arith, c.requires.1)
-
-pub bounds-w-i : goal.bounds-w-i
-bounds-w-i c = omega (arith, c.loop-i.invariant.long)
-
 pub loop-i-preserved : goal.loop-i-preserved
 loop-i-preserved c =
-    fill_more c.loop-i.invariant (omega arith) (shr c.args.t.now c.requires.2 c.loop-i.i).is
-
-pub shape_of-w : goal.shape_of-w
-shape_of-w c = omega (arith, c.loop-i.invariant.long, c.requires.0)
+    fill_more c.loop-i.invariant (omega (arith, c.requires.0)) (shr c.args.t.now c.requires.2 c.loop-i.i).is
 
 pub returns : goal.returns
-returns c = fill_done c.loop-i.invariant (omega arith)
+returns c = fill_done c.loop-i.invariant (omega (arith, c.requires.0))

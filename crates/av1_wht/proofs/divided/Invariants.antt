@@ -1,4 +1,3 @@
-use Prim.Native.Nat.{◌-◌}
 use lib.IntN.{pos}
 use Rattle.whole.specs.Numbers.{floor_div}
 use Rattle.whole.specs.Sums.{item}
@@ -7,6 +6,3 @@ use Rattle.av1_wht.proofs.divided.Given as goal
 
 abbrev pub invariant-loop-i : goal.invariant-loop-i
 invariant-loop-i l = Filling (pos 0) 16 (λ k. floor_div (item l.t k) 4) l.w l.i
-
-abbrev pub decreases-loop-i : goal.decreases-loop-i
-decreases-loop-i l = 16 - l.i

@@ -1,12 +1,9 @@
 use mathlib.Core.Path.{◌≡◌}
-use Prim.Native.Nat.{◌≤◌, ◌-◌}
+use Prim.Native.Nat.{◌-◌}
 use lib.ListN.{length}
 use Rattle.whole.specs.Search.{seek}
 use Rattle.chroma.specs.Chroma.{pair_ok}
 use Rattle.chroma.proofs.first_bad.Given as goal
 
 abbrev pub invariant-loop-i : goal.invariant-loop-i
-invariant-loop-i l = (l.i ≤ length l.u) × (seek (pair_ok l.lo l.hi l.u l.v) 0 (length l.u) ≡ seek (pair_ok l.lo l.hi l.u l.v) l.i (length l.u - l.i))
-
-abbrev pub decreases-loop-i : goal.decreases-loop-i
-decreases-loop-i l = length l.u - l.i
+invariant-loop-i l = seek (pair_ok l.lo l.hi l.u l.v) 0 (length l.u) ≡ seek (pair_ok l.lo l.hi l.u l.v) l.i (length l.u - l.i)

@@ -6,7 +6,7 @@ use lib.IntN.{pos, ◌+ℤ◌}
 use mir.Syntax.{w32}
 use mir.Val.{to_z, of_z}
 use mir.ValLaws.{to_z-of_z}
-use Rattle.whole.proofs.Num.{Num, lit, given, plus, shifted, ask, read}
+use Rattle.whole.proofs.Num.{Num, lit, given, plus, shifted, read}
 use Rattle.chroma.proofs.Rounding.{round-neg, round-pos}
 use Rattle.chroma.proofs.round.Goals as goal
 use Rattle.chroma.proofs.round.Lts as lts
@@ -17,12 +17,6 @@ Start = lts.Start reads.Pre reads.Post
 
 sum : (s : Start) (k : ℕ) → Num (to_z w32 (of_z w32 s.args.a) +ℤ pos k) (s.args.a +ℤ pos k) (1073741824 + k)
 sum s k = plus (given s.ranges.a s.requires) (lit (pos k))
-
-pub overflow_add-result : goal.overflow_add-result
-overflow_add-result c = ask (sum c.before 127) w32 (lit< tt)
-
-pub overflow_add-result-else-a-lt0 : goal.overflow_add-result-else-a-lt0
-overflow_add-result-else-a-lt0 c = ask (sum c.before 128) w32 (lit< tt)
 
 pub returns-then-a-lt0 : goal.returns-then-a-lt0
 returns-then-a-lt0 c =

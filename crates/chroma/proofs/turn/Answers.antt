@@ -53,19 +53,17 @@ overflow_mul-b-2 c = ask (vc c) w32 (lit< tt)
 pub overflow_add-b : goal.overflow_add-b
 overflow_add-b c = ask (b c) w32 (lit< tt)
 
-pub round-ra-requires : goal.round-ra-requires
-round-ra-requires c = size_of (read (a c) w32 (lit< tt)) (lit≤ tt)
+pub round-requires : goal.round-requires
+round-requires c = size_of (read (a c) w32 (lit< tt)) (lit≤ tt)
 
-pub round-rb-requires : goal.round-rb-requires
-round-rb-requires c = size_of (read (b c.before) w32 (lit< tt)) (lit≤ tt)
+pub round-requires-2 : goal.round-requires-2
+round-requires-2 c = size_of (read (b c.before.before) w32 (lit< tt)) (lit≤ tt)
 
 pub returns : goal.returns
 returns c =
-    let r₂ = c.before.before in
-    let r₁ = r₂.before in
-    let s = r₁.before in
-    let lo = to_z-of_z w32 s.args.lo s.ranges.lo in
-    let hi = to_z-of_z w32 s.args.hi s.ranges.hi in
-    let ra = back r₁.round-ra.type_inv ∙ r₁.round-ra.ensures ∙ ap round256 (read (a s) w32 (lit< tt)).is in
-    let rb = back r₂.round-rb.type_inv ∙ r₂.round-rb.ensures ∙ ap round256 (read (b s) w32 (lit< tt)).is in
+    let s = c.before.before.before.before in
+    let lo = to_z-of_z w32 c.args.lo c.ranges.lo in
+    let hi = to_z-of_z w32 c.args.hi c.ranges.hi in
+    let ra = back c.round.type_inv ∙ c.round.ensures ∙ ap round256 (read (a s) w32 (lit< tt)).is in
+    let rb = back c.round-2.type_inv ∙ c.round-2.ensures ∙ ap round256 (read (b s) w32 (lit< tt)).is in
     (back c.clamped.type_inv ∙ (rw (lo, hi, ra) at c.clamped.ensures), back c.clamped-2.type_inv ∙ (rw (lo, hi, rb) at c.clamped-2.ensures))

@@ -1,6 +1,4 @@
-use Prim.Native.Nat.{◌-◌}
 use lib.IntN.{pos}
-use lib.ListN.{length}
 use Rattle.whole.specs.Sums.{item}
 use Rattle.whole.proofs.Fill.{InPlace}
 use Rattle.chroma.specs.Chroma.{turn_u, turn_v}
@@ -9,6 +7,3 @@ use Rattle.chroma.proofs.turn_all.Given as goal
 abbrev pub invariant-loop-i : goal.invariant-loop-i
 invariant-loop-i l = InPlace (pos 0) l.initial.u (λ k. turn_u l.lo l.hi l.sina l.cosa (item l.initial.u k) (item l.initial.v k)) l.u l.i
     × InPlace (pos 0) l.initial.v (λ k. turn_v l.lo l.hi l.sina l.cosa (item l.initial.u k) (item l.initial.v k)) l.v l.i
-
-abbrev pub decreases-loop-i : goal.decreases-loop-i
-decreases-loop-i l = length l.initial.u - l.i

@@ -1,31 +1,27 @@
 -- `history::history_step` meets its contract: the judge, then the work. Assumes nothing.
-use mathlib.Core.Path.{sym, ◌∙◌}
+use mathlib.Core.Path.{sym, ap, ◌∙◌}
 use lib.ListN.{length}
-use Rattle.answers.proofs.Endings.{same_number}
-use Rattle.keeping.specs.Range.{Area, area, front_of}
-use Rattle.history.specs.Calls.{Lent, lent, step_samples, stepped, step_of}
+use Rattle.answers.specs.declared.Answer.{Answer}
+use Rattle.answers.proofs.Verdicts.{refuses}
+use Rattle.keeping.specs.Range.{area, front_of}
+use Rattle.history.specs.Calls.{lent, step_samples, stepped, step_of}
 use Rattle.history.proofs.Parts.{first-refused, first-passed}
 use Rattle.history.proofs.history_step.Goals as goal
-use Rattle.history.proofs.history_step.Lts as lts
-use Rattle.history.proofs.history_step.Reads as reads
-use Rattle.history.proofs.history_step.Tie as tie
 
-abbrev Start : Type 0
-Start = lts.Start tie.the-claims reads.Pre reads.Post
-
-abbrev A : Start → Area
-A s = area (length s.args.plane.now) s.args.stride s.args.width s.args.rows
-
-abbrev entry : Start → Lent
-entry s = lent s.args.plane.now s.args.steps.now s.args.levels.now s.args.index.now
-
-pub returns-then-a-ne0 : goal.returns-then-a-ne0
+pub returns-in-Err : goal.returns-in-Err
 unfolding step_of
-returns-then-a-ne0 c = first-refused (front_of (A c.before.before.before.before.before.before) c.args.depth c.args.row c.args.column c.args.level.now c.args.steps.now c.args.levels.now (length c.args.index.now)) (step_samples (A c.before.before.before.before.before.before) c.args.depth c.args.row c.args.column c.args.level.now (entry c.before.before.before.before.before.before)) (entry c.before.before.before.before.before.before) (stepped (A c.before.before.before.before.before.before) c.args.depth c.args.row c.args.column c.args.level.now (entry c.before.before.before.before.before.before)) c.judge_step-a.ensures c.if-a-ne0.true
+returns-in-Err c =
+    let a = area (length c.args.plane.now) c.args.stride c.args.width c.args.rows in
+    let m = lent c.args.plane.now c.args.steps.now c.args.levels.now c.args.index.now in
+    rw c.from.ensures (first-refused (front_of a c.args.depth c.args.row c.args.column c.args.level.now m.steps m.levels (length m.index)) (step_samples a c.args.depth c.args.row c.args.column c.args.level.now m) m (stepped a c.args.depth c.args.row c.args.column c.args.level.now m) c.in-Err.ensures (refuses c.in-Err.reason))
 
 pub step-requires : goal.step-requires
-step-requires c = same_number c.judge_step-a.ensures c.if-a-ne0.false
+step-requires c =
+    ap (λ (x : Answer). x.number) (sym c.in-Ok.ensures)
 
-pub returns : goal.returns
+pub returns-in-Ok : goal.returns-in-Ok
 unfolding step_of
-returns c = c.step.ensures ∙ sym (first-passed (front_of (A c.before.before.before.before.before.before.before.before.before.before.before.before.before.before.before.before.before) c.args.depth c.args.row c.args.column c.args.level.now c.args.steps.now c.args.levels.now (length c.args.index.now)) (step_samples (A c.before.before.before.before.before.before.before.before.before.before.before.before.before.before.before.before.before) c.args.depth c.args.row c.args.column c.args.level.now (entry c.before.before.before.before.before.before.before.before.before.before.before.before.before.before.before.before.before)) (entry c.before.before.before.before.before.before.before.before.before.before.before.before.before.before.before.before.before) (stepped (A c.before.before.before.before.before.before.before.before.before.before.before.before.before.before.before.before.before) c.args.depth c.args.row c.args.column c.args.level.now (entry c.before.before.before.before.before.before.before.before.before.before.before.before.before.before.before.before.before)) (same_number c.judge_step-a.ensures c.if-a-ne0.false))
+returns-in-Ok c =
+    let a = area (length c.args.plane.now) c.args.stride c.args.width c.args.rows in
+    let m = lent c.args.plane.now c.args.steps.now c.args.levels.now c.args.index.now in
+    rw c.from-in-Ok.ensures (c.step.ensures ∙ sym (first-passed (front_of a c.args.depth c.args.row c.args.column c.args.level.now m.steps m.levels (length m.index)) (step_samples a c.args.depth c.args.row c.args.column c.args.level.now m) m (stepped a c.args.depth c.args.row c.args.column c.args.level.now m) (ap (λ (x : Answer). x.number) (sym c.in-Ok.ensures))))

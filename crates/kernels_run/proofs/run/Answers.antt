@@ -1,13 +1,8 @@
 -- `kernels_run::run` meets the contracts of what it calls. Assumes nothing.
 use mathlib.Core.Path.{◌∙◌}
 use Prim.Native.Nat.{◌^◌}
-use native.Mathlib.Omega.{arith}
-use Rattle.tables.proofs.Kernels.{cut_most}
 use Rattle.tables.proofs.First.{first-length, first-within}
 use Rattle.kernels_run.proofs.run.Goals as goal
-
-pub fill-requires : goal.fill-requires
-fill-requires g c = omega (arith, c.requires.1, cut_most c.args.n)
 
 pub inv_tx1d-requires : goal.inv_tx1d-requires
 inv_tx1d-requires g c =

@@ -1,4 +1,3 @@
-use Prim.Native.Nat.{◌-◌}
 use lib.IntN.{pos}
 use lib.ListN.{length, get_or}
 use Rattle.whole.specs.Sums.{item}
@@ -7,6 +6,3 @@ use Rattle.av1.proofs.dct.gather.Given as goal
 
 abbrev pub invariant-loop-i : goal.invariant-loop-i
 invariant-loop-i l = Filling (pos 0) (length l.t) (λ k. item l.t (get_or l.from k 0)) l.w l.i
-
-abbrev pub decreases-loop-i : goal.decreases-loop-i
-decreases-loop-i l = length l.t - l.i

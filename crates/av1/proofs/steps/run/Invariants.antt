@@ -1,11 +1,9 @@
-use Prim.Native.Nat.{◌-◌}
+use Prim.Native.Nat.{◌/◌}
 use lib.ListN.{length}
 use Rattle.av1.specs.Steps.{goes}
 use Rattle.av1.proofs.Going.{Going}
 use Rattle.av1.proofs.steps.run.Given as goal
 
-abbrev pub invariant-loop-k : goal.invariant-loop-k
-invariant-loop-k l = Going l.lo l.hi l.cos l.ops (length l.initial.w) l.count (goes l.lo l.hi l.cos l.ops 0 l.count l.first l.initial.w) l.w l.p l.k
-
-abbrev pub decreases-loop-k : goal.decreases-loop-k
-decreases-loop-k l = l.count - l.k
+abbrev pub invariant-loop-a : goal.invariant-loop-a
+invariant-loop-a l =
+    Going l.ends.lo l.ends.hi l.cos l.ops (length l.initial.w) (length l.ops / 3) (goes l.ends.lo l.ends.hi l.cos l.ops 0 (length l.ops / 3) l.first l.initial.w) l.w l.p l.a-index

@@ -6,7 +6,4 @@ use Rattle.byteplanes.specs.Bytes.{byte_of}
 use Rattle.byteplanes.proofs.block_rows.add_rows.Given as goal
 
 abbrev pub invariant-loop-y : goal.invariant-loop-y
-invariant-loop-y l = Rewriting 0 l.stride l.w (λ r x. byte_of (get_or l.initial.dst (r * l.stride + x) 0) (grid_of l.w l.work r x)) l.initial.dst l.dst l.y × (l.y ≤ l.h)
-
-abbrev pub decreases-loop-y : goal.decreases-loop-y
-decreases-loop-y l = l.h - l.y
+invariant-loop-y l = Rewriting 0 l.stride l.w (λ r x. byte_of (get_or l.initial.dst (r * l.stride + x) 0) (grid_of l.w l.work r x)) l.initial.dst l.dst l.y

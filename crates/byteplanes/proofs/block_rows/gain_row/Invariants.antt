@@ -7,6 +7,3 @@ use Rattle.byteplanes.proofs.block_rows.gain_row.Given as goal
 
 abbrev pub invariant-loop-x : goal.invariant-loop-x
 invariant-loop-x l = InPlace 0 l.initial.row (λ k. byte_of (get_or l.initial.row k 0) (get_or l.e k (pos 0))) l.row l.x
-
-abbrev pub decreases-loop-x : goal.decreases-loop-x
-decreases-loop-x l = length l.initial.row - l.x

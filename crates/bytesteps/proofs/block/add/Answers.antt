@@ -1,7 +1,7 @@
 -- `bytesteps::block::add` meets its contract: at k, the first k bytes have gained their numbers. Assumes nothing.
 use mathlib.Core.Path.{◌≡◌, refl, sym, ap, ◌∙◌, subst}
 use mathlib.Core.List.{List, map}
-use Prim.Native.Nat.{ℕ, ◌≤◌, ◌<◌, ◌-◌}
+use Prim.Native.Nat.{ℕ, ◌<◌}
 use native.Mathlib.Omega.{arith}
 use lib.Dec.{lit≤}
 use lib.IntN.{ℤ, pos, nat_abs, ◌+ℤ◌}
@@ -64,7 +64,7 @@ module _ (c : After-spot_of-i) where
   in-plane =
       let l = c.before.before in
       let s = l.before.before in
-      rw c.spot_of-i.ensures (subst (λ (n : ℕ). Cell s l.loop-k.k < n) (sym (ap length l.loop-k.invariant.1 ∙ now-length s l.loop-k.k)) (lies c.before))
+      rw c.spot_of-i.ensures (subst (λ (n : ℕ). Cell s l.loop-k.k < n) (sym (ap length l.loop-k.invariant ∙ now-length s l.loop-k.k)) (lies c.before))
 
   -- the byte there is as it was
   here : let l = c.before.before in let s = l.before.before in pos (get_or l.loop-k.plane c.spot_of-i.result 0) ≡ item (Wide s) (Cell s l.loop-k.k)
@@ -74,7 +74,7 @@ module _ (c : After-spot_of-i) where
       let k = l.loop-k.k in
       let p = s.args.plane.now in
       ap (λ i. pos (get_or l.loop-k.plane i 0)) c.spot_of-i.ensures
-      ∙ ap (λ x. pos (get_or x (Cell s k) 0)) l.loop-k.invariant.1
+      ∙ ap (λ x. pos (get_or x (Cell s k) 0)) l.loop-k.invariant
       ∙ ap pos (get_or-map nat_abs (Now s k) (Cell s k) (pos 0) ∙ ap nat_abs (still (Cell s) (G s) k (Wide s) (fresh c.before) ∙ get_or-map pos p (Cell s k) 0))
       ∙ sym (get_or-map pos p (Cell s k) 0)
 
@@ -90,7 +90,7 @@ sum_is c =
 pub loop-k-init : goal.loop-k-init
 loop-k-init c =
     let s = c.before.before in
-    (omega arith, sym (numbers-back s.args.plane.now) ∙ ap (map nat_abs) (gain-start (Wide s) (G s) (Cell s)))
+    sym (numbers-back s.args.plane.now) ∙ ap (map nat_abs) (gain-start (Wide s) (G s) (Cell s))
 
 pub spot_of-i-requires : goal.spot_of-i-requires
 spot_of-i-requires c = let s = c.before.before.before in (omega arith, omega (arith, s.requires.stride_in_bounds.0, s.well_formed.0.0))
@@ -121,19 +121,17 @@ loop-k-preserved c =
     let l = d.before.before in
     let s = l.before.before in
     let k = l.loop-k.k in
-    let y = item (Wide s) (Cell s k) +ℤ G s k in (
-      omega arith,
-      ap (λ z. set l.loop-k.plane d.spot_of-i.result z) (c.raised.ensures ∙ ap nat_abs (sum_is a))
-          ∙ ap (λ i. set l.loop-k.plane i (nat_abs y)) d.spot_of-i.ensures
-          ∙ ap (λ x. set x (Cell s k) (nat_abs y)) l.loop-k.invariant.1
-          ∙ sym (map-set nat_abs (Now s k) (Cell s k) y)
-          ∙ ap (map nat_abs) (add_on-next (Cell s) (G s) k (Wide s) (fresh d.before) (subst (λ (n : ℕ). Cell s k < n) (sym (length-map s.args.plane.now pos)) (lies d.before)) refl),
-    )
+    let y = item (Wide s) (Cell s k) +ℤ G s k in
+    ap (λ z. set l.loop-k.plane d.spot_of-i.result z) (c.raised.ensures ∙ ap nat_abs (sum_is a))
+    ∙ ap (λ i. set l.loop-k.plane i (nat_abs y)) d.spot_of-i.ensures
+    ∙ ap (λ x. set x (Cell s k) (nat_abs y)) l.loop-k.invariant
+    ∙ sym (map-set nat_abs (Now s k) (Cell s k) y)
+    ∙ ap (map nat_abs) (add_on-next (Cell s) (G s) k (Wide s) (fresh d.before) (subst (λ (n : ℕ). Cell s k < n) (sym (length-map s.args.plane.now pos)) (lies d.before)) refl)
 
 pub shape_of-plane : goal.shape_of-plane
-shape_of-plane c = let l = c.before in ap length l.loop-k.invariant.1 ∙ now-length l.before.before l.loop-k.k
+shape_of-plane c = let l = c.before in ap length l.loop-k.invariant ∙ now-length l.before.before l.loop-k.k
 
 pub returns : goal.returns
 returns c =
     let l = c.before in
-    l.loop-k.invariant.1 ∙ ap (λ (n : ℕ). map nat_abs (Now l.before.before n)) (omega arith)
+    l.loop-k.invariant ∙ ap (λ (n : ℕ). map nat_abs (Now l.before.before n)) (omega arith)

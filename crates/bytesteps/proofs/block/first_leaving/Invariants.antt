@@ -1,8 +1,7 @@
 use mathlib.Core.Path.{◌≡◌}
 use mathlib.Core.List.{map}
-use Prim.Native.Nat.{ℕ, ◌-◌, ◌≤◌, ◌<◌}
+use Prim.Native.Nat.{◌-◌}
 use lib.IntN.{pos}
-use lib.ListN.{get_or}
 use Rattle.whole.specs.Sums.{item}
 use Rattle.whole.specs.Search.{seek, cell_at}
 use Rattle.lossless.specs.Gains.{later_ok}
@@ -10,9 +9,6 @@ use Rattle.lossless.specs.Step.{sample}
 use Rattle.bytesteps.proofs.block.first_leaving.Given as goal
 
 abbrev pub invariant-loop-k : goal.invariant-loop-k
-invariant-loop-k l = (l.k ≤ 16)
-    × (l.found ≡ seek (later_ok (sample 8) (cell_at l.start l.stride 4) (map pos l.plane) (item l.gains)) l.k (16 - l.k))
-    × ((j : ℕ) → l.k ≤ j → j < 16 → get_or l.plane (cell_at l.start l.stride 4 j) 0 ≤ 255)
-
-abbrev pub decreases-loop-k : goal.decreases-loop-k
-decreases-loop-k l = l.k
+invariant-loop-k l =
+    seek (later_ok (sample 8) (cell_at l.start l.stride 4) (map pos l.plane) (item l.gains)) 0 16
+    ≡ seek (later_ok (sample 8) (cell_at l.start l.stride 4) (map pos l.plane) (item l.gains)) l.k (16 - l.k)

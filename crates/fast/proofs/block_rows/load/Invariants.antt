@@ -1,4 +1,4 @@
-use Prim.Native.Nat.{◌+◌, ◌*◌, ◌-◌, ◌≤◌}
+use Prim.Native.Nat.{◌+◌, ◌*◌}
 use lib.IntN.{pos}
 use lib.ListN.{get_or}
 use Rattle.whole.proofs.Lent.{Rewriting}
@@ -6,7 +6,4 @@ use Rattle.passes.specs.Passes.{entry}
 use Rattle.fast.proofs.block_rows.load.Given as goal
 
 abbrev pub invariant-loop-x : goal.invariant-loop-x
-invariant-loop-x l = (l.x ≤ l.live) × Rewriting (pos 0) 16 l.k (λ y j. entry l.scale 8 (get_or l.coeff (l.r * l.down + y * l.across + j * l.down) (pos 0))) l.initial.t l.t l.x
-
-abbrev pub decreases-loop-x : goal.decreases-loop-x
-decreases-loop-x l = l.live - l.x
+invariant-loop-x l = Rewriting (pos 0) 16 l.k (λ y j. entry l.scale 8 (get_or l.coeff (l.r * l.down + y * l.across + j * l.down) (pos 0))) l.initial.t l.t l.x

@@ -1,65 +1,45 @@
 -- `fast::block_rows::rows` meets its contract: after some turns the first r rows stand in the work area. Assumes nothing.
-use mathlib.Core.Path.{refl, ◌∙◌, subst}
-use Prim.Native.Nat.{ℕ, ◌-◌, zero-le}
-use native.Mathlib.Omega.{arith}
-use lib.Dec.{lit<}
-use lib.IntN.{ℤ}
+use Rattle.std.proofs.Common.{◌≡◌, ◌+◌, ◌≤◌, ℕ, ℤ, min, arith, subst, List}
 use Rattle.passes.specs.Passes.{loaded}
 use Rattle.fast.specs.Groups.{Grouped, after_rows}
 use Rattle.fast.proofs.Turned.{group-none, group-then}
 use Rattle.fast.proofs.block_rows.rows.Goals as goal
-use Rattle.fast.proofs.block_rows.rows.Lts as lts
-use Rattle.fast.proofs.block_rows.rows.Reads as reads
-use Rattle.fast.proofs.block_rows.rows.Tie as tie
 
-abbrev Start : Type 0
-Start = lts.Start tie.the-claims reads.Pre reads.Post goal.the-invariant-loop-r goal.the-decreases-loop-r tie.handed_clauses
-
-rule : Start → ℕ → ℕ → ℤ
-rule s = after_rows s.args.sw s.args.shift (loaded s.args.rowwise s.args.scale 8 s.args.sw s.args.sh s.args.coeff.now)
+-- a group more
+on : {sw sh r m k n : ℕ} {f : ℕ → ℕ → ℤ} {old mid new : List ℤ} → m ≡ r → r + k ≡ n → Grouped sw sh 0 m f old mid → Grouped sw sh r k (λ l x. f (r + l) x) mid new → r + k ≤ sh → Grouped sw sh 0 n f old new
+on {sw} {sh} {f = f} {old} {mid} {new} e d p q fit =
+    subst (λ (n : ℕ). Grouped sw sh 0 n f old new) d (group-then {f = f} (subst (λ (n : ℕ). Grouped sw sh 0 n f old mid) e p) q fit)
 
 pub loop-r-init : goal.loop-r-init
-unfolding rule
-loop-r-init c = (zero-le, group-none c.args.sw c.args.sh (rule c) c.args.work.now, c.requires.sh_in_bounds.2, refl, refl)
-
-pub group-requires : goal.group-requires
-group-requires c =
-    let l = c.loop-r in
-    let k = c.least-k in record {
-      sized = (c.requires.sized.0, c.requires.sized.1, omega (arith, k.ensures.1, c.loop-r-test.true, c.requires.sized.2), k.ensures.2 (lit< tt) (omega (arith, c.loop-r-test.true)), k.ensures.0, omega (arith, c.requires.sized.3, l.invariant.3), omega (arith, c.requires.sized.4, l.invariant.4), (λ q h. omega (arith, c.requires.sized.5 q h, l.invariant.1.long)), c.requires.sized.6);
-      sh_in_bounds = (c.requires.sh_in_bounds.0, c.requires.sh_in_bounds.1, l.invariant.2, c.requires.sh_in_bounds.3);
+loop-r-init c =
+    let f : ℕ → ℕ → ℤ = after_rows c.args.sw c.args.shift (loaded c.args.rowwise c.args.scale 8 c.args.sw c.args.sh c.args.coeff.now) in
+    let e : 0 ≡ min 0 c.args.rows = omega arith in
+    record {
+      done = subst (λ (n : ℕ). Grouped c.args.sw c.args.sh 0 n f c.args.work.now c.args.work.now) e (group-none c.args.sw c.args.sh f c.args.work.now);
+      still = c.requires.sh_in_bounds.2;
     }
 
-pub overflow_add-r : goal.overflow_add-r
-overflow_add-r c = omega (arith, c.least-k.ensures.1, c.loop-r-test.true)
-
-pub loop-r-smaller : goal.loop-r-smaller
-loop-r-smaller c = omega (arith, c.least-k.ensures.1, c.loop-r-test.true, c.least-k.ensures.2 (lit< tt) (omega (arith, c.loop-r-test.true)))
+pub group-requires-clause-sh_in_bounds : goal.group-requires-clause-sh_in_bounds
+group-requires-clause-sh_in_bounds c = (c.requires.sh_in_bounds.0, c.requires.sh_in_bounds.1, c.loop-r.invariant.still, c.requires.sh_in_bounds.3)
 
 pub loop-r-preserved : goal.loop-r-preserved
-unfolding rule
 loop-r-preserved c =
-    let l = c.loop-r in
-    let k = c.least-k in
-    let f = c.group in (
-      omega (arith, k.ensures.1, c.loop-r-test.true),
-      group-then {f = rule c.before.before.before.before.before.before.before.before.before.before} l.invariant.1 f.ensures.0 (omega (arith, k.ensures.1, c.loop-r-test.true, c.requires.sized.2)),
-      f.ensures.1,
-      f.auto.t ∙ l.invariant.3,
-      f.auto.out ∙ l.invariant.4,
-    )
-
-pub shape_of-work : goal.shape_of-work
-shape_of-work c = c.loop-r.invariant.1.long
-
-pub shape_of-t : goal.shape_of-t
-shape_of-t c = c.loop-r.invariant.3
-
-pub shape_of-out : goal.shape_of-out
-shape_of-out c = c.loop-r.invariant.4
+    let f : ℕ → ℕ → ℤ = after_rows c.args.sw c.args.shift (loaded c.args.rowwise c.args.scale 8 c.args.sw c.args.sh c.args.coeff.now) in
+    let e : min c.loop-r.r c.args.rows ≡ c.loop-r.r = omega arith in
+    let d : c.loop-r.r + c.min-k.result ≡ min (c.loop-r.r + 16) c.args.rows = omega arith in
+    let fit : c.loop-r.r + c.min-k.result ≤ c.args.sh = omega (arith, c.requires.sized.2) in
+    record { done = on {f = f} e d c.loop-r.invariant.done c.group.ensures.0 fit; still = c.group.ensures.1 }
 
 pub returns : goal.returns
-unfolding rule
 returns c =
-    let l = c.loop-r in
-    subst (λ (n : ℕ). Grouped c.args.sw c.args.sh 0 n (rule c.before.before) c.args.work.now l.work) (omega (arith, l.invariant.0)) l.invariant.1
+    let f : ℕ → ℕ → ℤ = after_rows c.args.sw c.args.shift (loaded c.args.rowwise c.args.scale 8 c.args.sw c.args.sh c.args.coeff.now) in
+    let e : min c.loop-r.r c.args.rows ≡ c.args.rows = omega arith in
+    subst (λ (n : ℕ). Grouped c.args.sw c.args.sh 0 n f c.args.work.now c.loop-r.work) e c.loop-r.invariant.done
+
+pub returns-2 : goal.returns-2
+returns-2 c =
+    let f : ℕ → ℕ → ℤ = after_rows c.args.sw c.args.shift (loaded c.args.rowwise c.args.scale 8 c.args.sw c.args.sh c.args.coeff.now) in
+    let e : min c.loop-r.r c.args.rows ≡ c.loop-r.r = omega arith in
+    let d : c.loop-r.r + c.min-k.result ≡ c.args.rows = omega arith in
+    let fit : c.loop-r.r + c.min-k.result ≤ c.args.sh = omega (arith, c.requires.sized.2) in
+    on {f = f} e d c.loop-r.invariant.done c.group.ensures.0 fit

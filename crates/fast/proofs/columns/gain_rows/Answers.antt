@@ -1,99 +1,48 @@
 -- `fast::columns::gain_rows` meets its contract: after y turns the first y rows have gained, every other sample is as it was. Assumes nothing.
-use mathlib.Core.Path.{◌≡◌, sym, ap, ◌∙◌, subst}
-use Prim.Native.Nat.{ℕ, ◌+◌, ◌*◌, ◌-◌, ◌/◌, ◌^◌, ◌≤◌, ◌<◌, zero-le}
+use Rattle.std.proofs.Common.{◌≡◌, ◌+◌, ◌*◌, ◌/◌, ◌^◌, ◌≤◌, ◌<◌, pos, nat_abs, length, get_or, ℕ, ℤ, arith, ap, sym, ◌∙◌, subst}
 use native.Mathlib.Nat as N
-use native.Mathlib.Omega.{arith}
-use lib.IntN.{ℤ, pos, nat_abs}
-use lib.ListN.{length, get_or}
 use Rattle.whole.specs.Sums.{Within}
 use Rattle.whole.proofs.Fill.{within-tab}
 use Rattle.whole.proofs.Lent.{lent, lent_at, lent-count, lent-within}
 use Rattle.wide_rows.specs.Lines.{line}
 use Rattle.narrow.specs.Painted.{Painted}
-use Rattle.narrow.proofs.Paints.{paint-start, paint-now, paint-more}
+use Rattle.narrow.proofs.Paints.{paint-now, paint-more}
 use Rattle.fast.specs.Gains.{residual_by, gains_of}
 use Rattle.fast.proofs.Gained.{row-gained}
 use Rattle.fast.proofs.columns.gain_rows.Goals as goal
-use Rattle.fast.proofs.columns.gain_rows.Lts as lts
-use Rattle.fast.proofs.columns.gain_rows.Reads as reads
-use Rattle.fast.proofs.columns.gain_rows.Tie as tie
-
-abbrev In-loop-y : Type 0
-In-loop-y = lts.In-loop tie.the-claims reads.Pre reads.Post goal.the-invariant-loop-y goal.the-decreases-loop-y tie.handed_clauses
-
-abbrev Start : Type 0
-Start = lts.Start tie.the-claims reads.Pre reads.Post goal.the-invariant-loop-y goal.the-decreases-loop-y tie.handed_clauses
-
-module _ (c : In-loop-y) where
-  abbrev s : Start
-  s = c.before.before
-
-  abbrev y : ℕ
-  y = c.loop-y.y
-
-  abbrev a : ℕ
-  a = s.args.from + y * s.args.stride
-
-  end : a + s.args.w ≤ length s.args.dst.now
-  end = s.requires.shown.0.inside y c.loop-y-test.true
-
-  inside : a + s.args.w ≤ length c.loop-y.dst
-  inside = omega (arith, end, c.loop-y.invariant.1.long)
-
-  still : (x : ℕ) → x < s.args.w → get_or c.loop-y.dst (a + x) (pos 0) ≡ get_or s.args.dst.now (a + x) (pos 0)
-  still = paint-now c.loop-y.invariant.1 s.requires.shown.0.wide
-
-rule : Start → ℕ → ℕ → ℤ
-rule q = gains_of q.args.dst.now q.args.from q.args.stride (residual_by q.args.shift q.args.across q.args.down (λ r x. line q.args.out.now x r))
-
-pub loop-y-init : goal.loop-y-init
-loop-y-init c = (zero-le, paint-start)
-
-pub overflow_mul-a : goal.overflow_mul-a
-overflow_mul-a c = omega (arith, end c)
-
-pub overflow_add-a : goal.overflow_add-a
-overflow_add-a c = omega (arith, end c)
-
-pub overflow_add-b : goal.overflow_add-b
-overflow_add-b c = omega (arith, end c)
-
-pub row_of-e-requires : goal.row_of-e-requires
-row_of-e-requires c = ((s c).requires.by_index (y c) c.loop-y-test.true).0
-
-pub offset_bounds-dst-a : goal.offset_bounds-dst-a
-offset_bounds-dst-a c = omega (arith, end c.before, (s c.before).well_formed.0.1)
-
-pub slice_bounds-gain_row-end : goal.slice_bounds-gain_row-end
-slice_bounds-gain_row-end c = omega (arith, inside c.before)
 
 pub gain_row-requires : goal.gain_row-requires
 gain_row-requires c =
-    let q = s c.before.before in (
-      lent-within 4096 c.loop-y.dst (a c.before.before) q.args.w (inside c.before.before) (λ x h. subst (λ (z : ℤ). nat_abs z ≤ 4096) (sym (still c.before.before x h)) (q.requires.shown.0.small (y c.before.before) x c.loop-y-test.true h)),
-      subst (Within (2 ^ 30)) (sym c.row_of-e.ensures) (within-tab (2 ^ 30) 16 (λ l. line q.args.out.now l (y c.before.before / 2 ^ q.args.down)) (q.requires.by_index (y c.before.before) c.loop-y-test.true).1),
-      q.requires.shown.1,
-      (λ x h. q.requires.shown.4 x (subst (λ (n : ℕ). x < n) (lent-count (pos 0) c.loop-y.dst (a c.before.before) q.args.w (inside c.before.before)) h)),
-      q.requires.shown.3,
+    let y = c.loop-y.y in
+    let w = c.args.w in
+    let a = c.args.from + y * c.args.stride in
+    let s = c.requires.shown in
+    let inside : a + w ≤ length c.loop-y.dst = omega (arith, s.0.inside y c.loop-y-test.true) in
+    let still : (x : ℕ) → x < w → get_or c.loop-y.dst (a + x) (pos 0) ≡ get_or c.args.dst.now (a + x) (pos 0) = paint-now c.loop-y.invariant s.0.wide in (
+      lent-within 4096 c.loop-y.dst a w inside (λ x h. subst (λ (z : ℤ). nat_abs z ≤ 4096) (sym (still x h)) (s.0.small y x c.loop-y-test.true h)),
+      subst (Within (2 ^ 30)) (sym c.row_of-e.ensures) (within-tab (2 ^ 30) 16 (λ l. line c.args.out.now l (y / 2 ^ c.args.down)) (c.requires.by_index y c.loop-y-test.true).1),
+      s.1,
+      (λ x h. s.4 x (subst (λ (n : ℕ). x < n) (lent-count (pos 0) c.loop-y.dst a w inside) h)),
+      s.3,
     )
 
 pub loop-y-preserved : goal.loop-y-preserved
-unfolding rule
 loop-y-preserved c =
-    let q = s c.before.before.before.before in
-    let f = c.gain_row in (
-      omega (arith, c.loop-y-test.true),
-      paint-more {f = rule q} c.loop-y.invariant.1 q.requires.shown.0.wide (end c.before.before.before.before) _ (N.add-sub_cancel_left (a c.before.before.before.before) q.args.w) f.new.row f.auto.row
-          (λ x h. ap (λ l. get_or l x (pos 0)) f.ensures
-          ∙ row-gained (pos 0) (λ z. z) q.args.shift q.args.across q.args.w (lent (a c.before.before.before.before) q.args.w c.loop-y.dst) c.row_of-e.result (λ x. get_or q.args.dst.now (a c.before.before.before.before + x) (pos 0)) (λ l. line q.args.out.now l (y c.before.before.before.before / 2 ^ q.args.down))
-          (λ x h. lent_at (pos 0) c.loop-y.dst (a c.before.before.before.before) q.args.w (inside c.before.before.before.before) x h ∙ still c.before.before.before.before x h) c.row_of-e.ensures q.requires.shown.4 _ (lent-count (pos 0) c.loop-y.dst (a c.before.before.before.before) q.args.w (inside c.before.before.before.before)) x h),
-    )
-
-pub shape_of-dst : goal.shape_of-dst
-shape_of-dst c = c.loop-y.invariant.1.long
+    let y = c.loop-y.y in
+    let w = c.args.w in
+    let a = c.args.from + y * c.args.stride in
+    let s = c.requires.shown in
+    let f : ℕ → ℕ → ℤ = gains_of c.args.dst.now c.args.from c.args.stride (residual_by c.args.shift c.args.across c.args.down (λ r x. line c.args.out.now x r)) in
+    let end : a + w ≤ length c.args.dst.now = s.0.inside y c.loop-y-test.true in
+    let inside : a + w ≤ length c.loop-y.dst = omega (arith, end) in
+    let still : (x : ℕ) → x < w → get_or c.loop-y.dst (a + x) (pos 0) ≡ get_or c.args.dst.now (a + x) (pos 0) = paint-now c.loop-y.invariant s.0.wide in
+    paint-more {f = f} c.loop-y.invariant s.0.wide end _ (N.add-sub_cancel_left a w) c.gain_row.new.row c.gain_row.auto.row
+    (λ x h. ap (λ l. get_or l x (pos 0)) c.gain_row.ensures
+    ∙ row-gained (pos 0) (λ z. z) c.args.shift c.args.across w (lent a w c.loop-y.dst) c.row_of-e.result (λ x. get_or c.args.dst.now (a + x) (pos 0)) (λ l. line c.args.out.now l (y / 2 ^ c.args.down))
+    (λ x h. lent_at (pos 0) c.loop-y.dst a w inside x h ∙ still x h) c.row_of-e.ensures s.4 _ (lent-count (pos 0) c.loop-y.dst a w inside) x h)
 
 pub returns : goal.returns
-unfolding rule
 returns c =
-    let l = c.loop-y in
-    subst (λ (n : ℕ). Painted (pos 0) c.args.from c.args.stride c.args.w n (rule c.before.before) c.args.dst.now l.dst) (omega arith) l.invariant.1
+    let f : ℕ → ℕ → ℤ = gains_of c.args.dst.now c.args.from c.args.stride (residual_by c.args.shift c.args.across c.args.down (λ r x. line c.args.out.now x r)) in
+    let e : c.loop-y.y ≡ c.args.h = omega arith in
+    subst (λ (n : ℕ). Painted (pos 0) c.args.from c.args.stride c.args.w n f c.args.dst.now c.loop-y.dst) e c.loop-y.invariant

@@ -11,6 +11,7 @@ use Rattle.whole.specs.Numbers.{highest}
 use Rattle.whole.specs.Search.{seek}
 use Rattle.whole.proofs.Num.{Num, lit, made, minus, ask, read}
 use Rattle.wht.specs.Calls.{number_ok}
+use Rattle.wht.proofs.Lists.{passes-by}
 use Rattle.folding_code.proofs.fold.in_size.Goals as goal
 use Rattle.folding_code.proofs.fold.in_size.Lts as lts
 use Rattle.folding_code.proofs.fold.in_size.Reads as reads
@@ -39,4 +40,5 @@ overflow_sub-lo c = ask (low c) w32 (lit< tt)
 
 pub returns : goal.returns
 returns c =
-    ap (leb 16) (c.first_bad.ensures ∙ (λ t. seek (number_ok (low-is c.before t) (high_is c.before t) c.args.g.now) 0 16))
+    passes-by _ 16 c.find_bad.result c.find_bad.ensures c.is_none.ensures
+    ∙ ap (leb 16) (λ t. seek (number_ok (low-is c.before.before.before t) (high_is c.before.before.before t) c.args.g.now) 0 16)

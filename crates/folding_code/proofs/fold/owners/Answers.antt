@@ -14,10 +14,10 @@ use Rattle.folding_code.proofs.fold.owners.Goals as goal
 
 pub loop-i-init : goal.loop-i-init
 unfolding pass_fair
-loop-i-init c = (omega arith, owned-start c.args.s.now c.args.l.now c.args.o.now c.requires.1, refl)
+loop-i-init c = (owned-start c.args.s.now c.args.l.now c.args.o.now c.requires.1, refl)
 
 pub place-requires : goal.place-requires
-place-requires c = (listed-less c.requires.0 (suc c.loop-i.i) c.loop-i-test.true, c.loop-i.invariant.1, c.loop-i.invariant.2)
+place-requires c = (listed-less c.requires.0 (suc c.loop-i.i) c.loop-i-test.true, c.loop-i.invariant.0, c.loop-i.invariant.1)
 
 pub shape_of-o-then-not-place : goal.shape_of-o-then-not-place
 shape_of-o-then-not-place c = c.place.ensures.long ∙ sym c.requires.1
@@ -32,12 +32,12 @@ loop-i-preserved c =
     let r = c.place.ensures in
     let e = not-false _ c.if-not-place.false-raw in
     let z = sym (add-one c.loop-i.i) in
-    (omega arith, subst (Owned c.args.s.now c.args.l.now c.place.new.o) z (r.owned e), subst (λ (n : ℕ). pass_fair (entries c.args.s.now c.args.l.now n) ≡ true) z (r.fair ∙ e))
+    (subst (Owned c.args.s.now c.args.l.now c.place.new.o) z (r.owned e), subst (λ (n : ℕ). pass_fair (entries c.args.s.now c.args.l.now n) ≡ true) z (r.fair ∙ e))
 
 pub shape_of-o : goal.shape_of-o
-shape_of-o c = c.loop-i.invariant.1.long ∙ sym c.requires.1
+shape_of-o c = c.loop-i.invariant.0.long ∙ sym c.requires.1
 
 pub returns : goal.returns
 returns c =
     let z : c.loop-i.i ≡ c.args.n = omega arith in
-    record { fair = subst (λ (n : ℕ). pass_fair (entries c.args.s.now c.args.l.now n) ≡ true) z c.loop-i.invariant.2; long = c.loop-i.invariant.1.long; owned = λ _. subst (Owned c.args.s.now c.args.l.now c.loop-i.o) z c.loop-i.invariant.1 }
+    record { fair = subst (λ (n : ℕ). pass_fair (entries c.args.s.now c.args.l.now n) ≡ true) z c.loop-i.invariant.1; long = c.loop-i.invariant.0.long; owned = λ _. subst (Owned c.args.s.now c.args.l.now c.loop-i.o) z c.loop-i.invariant.0 }

@@ -1,7 +1,8 @@
 -- `folding_code::fold::place` meets its contract: no partner, a step that is none, or a partner. Assumes nothing.
-use mathlib.Core.Path.{◌≡◌, sym, ◌∙◌, subst}
+use mathlib.Core.Path.{◌≡◌, sym, ◌∙◌}
 use mathlib.Core.Bool.{◌&&◌}
-use Prim.Native.Nat.{ℕ, suc, ◌-◌, ◌≤◌}
+use mathlib.Core.List.{List}
+use Prim.Native.Nat.{ℕ, suc, ◌<◌}
 use native.Mathlib.Omega.{arith}
 use borrow.Author.Tests.{not-true, not-false}
 use lib.Dec.{eqb}
@@ -12,46 +13,34 @@ use Rattle.folding.specs.Owners.{owner, partner}
 use Rattle.folding.proofs.Owners.{alone-by, other-by}
 use Rattle.folding.proofs.Turns.{stays}
 use Rattle.folding_code.proofs.fold.place.Goals as goal
-use Rattle.folding_code.proofs.fold.place.Lts as lts
-use Rattle.folding_code.proofs.fold.place.Reads as reads
-use Rattle.folding_code.proofs.fold.place.Tie as tie
 
-abbrev After-partner-k : Type 0
-After-partner-k = lts.After-partner tie.the-claims reads.Pre reads.Post tie.handed_clauses
+-- what the search found, at the row and the column as they were read
+found : (o s : List ℕ) (i : ℕ) {k r c : ℕ} → k ≡ partner (owner o) s r c i → r ≡ word s i 2 → c ≡ word s i 3 → k ≡ partner (owner o) s (word s i 2) (word s i 3) i
+found o s i e p q = e ∙ (λ t. partner (owner o) s (p t) (q t) i)
 
--- what the search found
-module _ (c : After-partner-k) where
-  found : c.partner-k.result ≡ partner (owner c.args.o.now) c.args.s.now (word c.args.s.now c.args.i 2) (word c.args.s.now c.args.i 3) c.args.i
-  found =
-      c.partner-k.ensures ∙ (λ t. partner (owner c.args.o.now) c.args.s.now (c.word.ensures t) (c.word-2.ensures t) c.args.i)
+less : (o s : List ℕ) (i h : ℕ) → suc h ≡ partner (owner o) s (word s i 2) (word s i 3) i → h < i
+less o s i h e = omega (arith, e, last-most (λ j. eqb (owner o j) j && touches (word s i 2) (word s i 3) (mark_at s j)) i)
 
-  most : c.partner-k.result ≤ c.args.i
-  most =
-      let o = c.args.o.now in
-      subst (λ (n : ℕ). n ≤ c.args.i) (sym found)
-      (last-most (λ j. eqb (owner o j) j && touches (word c.args.s.now c.args.i 2) (word c.args.s.now c.args.i 3) (mark_at c.args.s.now j)) c.args.i)
-
-pub returns-then-k-eq0 : goal.returns-then-k-eq0
-returns-then-k-eq0 c =
-    let a = alone-by (owner c.args.o.now) c.args.s.now c.args.l.now c.args.i (entry_at c.args.s.now c.args.l.now c.args.i) c.args.i (sym (found c.before.before) ∙ c.if-k-eq0.true) in
+pub returns-in_default : goal.returns-in_default
+returns-in_default c =
+    let a = alone-by (owner c.args.o.now) c.args.s.now c.args.l.now c.args.i (entry_at c.args.s.now c.args.l.now c.args.i) c.args.i (sym (found c.args.o.now c.args.s.now c.args.i c.in_default.ensures c.word.ensures c.word-2.ensures)) in
     stays c.args.s.now c.args.l.now c.args.o.now c.args.i c.requires.0 c.requires.1 c.requires.2 a.0 a.1
 
 pub alike-requires : goal.alike-requires
-alike-requires c = (c.requires.0.most, omega (arith, most c.before.before, c.requires.0.most), c.requires.0.steps)
+alike-requires c =
+    let e = found c.args.o.now c.args.s.now c.args.i c.in-Some.ensures c.word.ensures c.word-2.ensures in
+    (c.requires.0.most, omega (arith, less c.args.o.now c.args.s.now c.args.i c.in-Some.h e, c.requires.0.most), c.requires.0.steps)
 
 pub returns-then-not-alike : goal.returns-then-not-alike
 returns-then-not-alike c =
-    let k = c.partner-k.result in
-    let z : k ≡ suc (k - 1) = omega arith in
-    let a = other-by (owner c.args.o.now) c.args.s.now c.args.l.now c.args.i (entry_at c.args.s.now c.args.l.now c.args.i) (k - 1) c.args.i (sym (found c.before.before.before.before) ∙ z)
-    (sym c.alike.ensures ∙ not-true _ c.if-not-alike.true-raw) in
+    let e = found c.args.o.now c.args.s.now c.args.i c.in-Some.ensures c.word.ensures c.word-2.ensures in
+    let a = other-by (owner c.args.o.now) c.args.s.now c.args.l.now c.args.i (entry_at c.args.s.now c.args.l.now c.args.i) c.in-Some.h c.args.i (sym e) (sym c.alike.ensures ∙ not-true _ c.if-not-alike.true-raw) in
     stays c.args.s.now c.args.l.now c.args.o.now c.args.i c.requires.0 c.requires.1 c.requires.2 a.0 a.1
 
 pub join-requires : goal.join-requires
 join-requires c =
-    let k = c.partner-k.result in
-    let z : k ≡ suc (k - 1) = omega arith in
+    let e = found c.args.o.now c.args.s.now c.args.i c.in-Some.ensures c.word.ensures c.word-2.ensures in
     record {
       listed = (c.requires.0, c.requires.1, c.requires.2);
-      h_lt_i = (omega (arith, most c.before.before.before.before.before), sym (found c.before.before.before.before.before) ∙ z, sym c.alike.ensures ∙ not-false _ c.if-not-alike.false-raw);
+      h_lt_i = (less c.args.o.now c.args.s.now c.args.i c.in-Some.h e, sym e, sym c.alike.ensures ∙ not-false _ c.if-not-alike.false-raw);
     }

@@ -1,4 +1,3 @@
-use Prim.Native.Nat.{◌-◌}
 use lib.IntN.{pos, ◌+ℤ◌}
 use lib.ListN.{get_or}
 use Rattle.whole.proofs.Fill.{InPlace}
@@ -6,6 +5,3 @@ use Rattle.folding_code.proofs.fold.plus.Given as goal
 
 abbrev pub invariant-loop-k : goal.invariant-loop-k
 invariant-loop-k l = InPlace (pos 0) l.initial.out (λ j. get_or l.initial.out j (pos 0) +ℤ get_or l.a j (pos 0)) l.out l.k
-
-abbrev pub decreases-loop-k : goal.decreases-loop-k
-decreases-loop-k l = 16 - l.k

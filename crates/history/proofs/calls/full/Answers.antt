@@ -1,5 +1,5 @@
 -- `history::calls::full` meets its contract: the two tests of 14. Assumes nothing.
-use mathlib.Core.Path.{◌≡◌, refl, sym, ap, ◌∙◌}
+use mathlib.Core.Path.{◌≡◌, refl, sym, ap}
 use Prim.Native.Nat.{ℕ, ◌≤◌, ◌<◌}
 use native.Mathlib.Omega.{arith}
 use mathlib.Core.Bool.{Bool, true, false, ◌&&◌}
@@ -26,10 +26,10 @@ fits_in : (s : List ℕ) → count s < 4096 → number_before s (count s) < 4294
 fits_in s h k = rw (lt-ltb (count s) 4096 h, lt-ltb (number_before s (count s)) 4294967295 k)
 
 pub returns-then-n-ge4096 : goal.returns-then-n-ge4096
-returns-then-n-ge4096 c = c.refusal.ensures ∙ sym (stops (refused 14 0 0) done (many c.args.s.now (omega (arith, c.word-n.ensures, c.if-n-ge4096.true))))
+returns-then-n-ge4096 c = sym (stops (refused 14 0 0) done (many c.args.s.now (omega (arith, c.word-n.ensures, c.if-n-ge4096.true))))
 
 pub returns-then-number_before-ge4294967295 : goal.returns-then-number_before-ge4294967295
-returns-then-number_before-ge4294967295 c = c.refusal-then-number_before-ge4294967295.ensures ∙ sym (stops (refused 14 0 0) done (high c.args.s.now (omega (arith, ap (number_before c.args.s.now) c.word-n.ensures, c.number_before.ensures, c.if-number_before-ge4294967295.true))))
+returns-then-number_before-ge4294967295 c = sym (stops (refused 14 0 0) done (high c.args.s.now (omega (arith, ap (number_before c.args.s.now) c.word-n.ensures, c.number_before.ensures, c.if-number_before-ge4294967295.true))))
 
 pub returns : goal.returns
-returns c = c.finished.ensures ∙ sym (opens (refused 14 0 0) done (fits_in c.args.s.now (omega (arith, c.word-n.ensures, c.if-n-ge4096.false)) (omega (arith, ap (number_before c.args.s.now) c.word-n.ensures, c.number_before.ensures, c.if-number_before-ge4294967295.false))))
+returns c = sym (opens (refused 14 0 0) done (fits_in c.args.s.now (omega (arith, c.word-n.ensures, c.if-n-ge4096.false)) (omega (arith, ap (number_before c.args.s.now) c.word-n.ensures, c.number_before.ensures, c.if-number_before-ge4294967295.false))))

@@ -3,7 +3,7 @@ use mathlib.Core.Path.{◌≡◌, sym, ap, ◌∙◌}
 use borrow.Author.Tests.{not-true, not-false}
 use lib.Dec.{ltb}
 use Rattle.remain.specs.Remaining.{number_at, word}
-use Rattle.keeping.specs.Range.{Area, area, within, stands}
+use Rattle.keeping.specs.Range.{Area, area_of, within, stands}
 use Rattle.keeping.proofs.front.mark_ok.Goals as goal
 use Rattle.keeping.proofs.front.mark_ok.Lts as lts
 use Rattle.keeping.proofs.front.mark_ok.Reads as reads
@@ -19,7 +19,7 @@ abbrev After-stands : Type 0
 After-stands = lts.After-stands tie.the-claims reads.Pre reads.Post
 
 abbrev A : Start → Area
-A s = area s.args.n s.args.stride s.args.width s.args.rows
+A s = area_of s.args.a
 
 deep_is : (c : After-between) → c.between.result ≡ within 8 12 (word c.args.s.now c.args.i 1)
 deep_is c = c.between.ensures ∙ ap (within 8 12) c.word.ensures

@@ -1,6 +1,6 @@
 -- `kernels::dct::dct_recurse` and `kernels::dct::inv_dct_combine` meet their contracts: one proof, since they call each other. The length
 -- falls each time. Assumes nothing.
-use mathlib.Core.Path.{◌≡◌, refl, sym, ap, ◌∙◌}
+use mathlib.Core.Path.{◌≡◌, sym, ap, ◌∙◌}
 use mathlib.Core.Logic.{inl, inr}
 use Prim.Native.Nat.{ℕ}
 use Rattle.kernels.specs.Dct.{dct_of, Recursed}

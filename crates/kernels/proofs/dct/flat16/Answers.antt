@@ -2,6 +2,7 @@
 use mathlib.Core.Path.{sym, ap, ◌∙◌}
 use lib.ListN.{length}
 use Rattle.tables.specs.Half.{half16}
+use Rattle.rows.proofs.Dots.{as_read, left_by}
 use Rattle.kernels.proofs.EvenOdd.{Halved, halving16, odd-rows, even-count, even-inputs, fold_asks, fold-gives}
 use Rattle.kernels.proofs.dct.flat16.Goals as goal
 use Rattle.kernels.proofs.dct.flat16.Lts as lts
@@ -22,7 +23,7 @@ pub products-requires : goal.products-requires
 products-requires c =
     let o = c.before.before.before.before in
     let s = o.before.before.before in
-    (sym (ap length o.odds.ensures), odd-rows halving16 s.args.c.now o.odds.new.out s.requires.1 o.odds.ensures)
+    (sym (ap length o.odds.ensures), as_read (odd-rows halving16 s.args.c.now o.odds.new.out s.requires.1 o.odds.ensures))
 
 pub slice_bounds-flat8-end-2 : goal.slice_bounds-flat8-end-2
 slice_bounds-flat8-end-2 c = sym (even-count (apart c.before.before))
@@ -34,11 +35,11 @@ pub fold-requires : goal.fold-requires
 fold-requires c =
     let f = c.before.before.before in
     let e = f.before.before.before in
-    let a = fold_asks (apart e) f.flat8.ensures e.products.ensures in
+    let a = fold_asks (apart e) f.flat8.ensures (left_by half16 e.before.before.before.before.odds.new.out _ e.products.ensures) in
     record { out_len = a.0; join_room = a.1 }
 
 pub returns : goal.returns
 returns c =
     let f = c.before.before.before.before.before in
     let e = f.before.before.before in
-    fold-gives (apart e) f.flat8.ensures e.products.ensures c.fold.ensures
+    fold-gives (apart e) f.flat8.ensures (left_by half16 e.before.before.before.before.odds.new.out _ e.products.ensures) c.fold.ensures

@@ -1,12 +1,12 @@
 -- `kernels::dst::inv_dst` meets its contract: the numbers that are not live are cleared, the products turned where they must be. Assumes nothing.
 use mathlib.Core.Path.{sym, ap, ◌∙◌, subst}
 use mathlib.Core.List.{List}
-use Prim.Native.Nat.{ℕ, ◌≤◌}
+use Prim.Native.Nat.{◌≤◌}
 use lib.IntN.{ℤ}
 use lib.ListN.{length}
 use Rattle.tables.specs.Dense.{dense_by}
 use Rattle.rows.specs.Rows.{Rows}
-use Rattle.kernels.proofs.ByRows.{turned_rows, rows_long}
+use Rattle.kernels.proofs.ByRows.{turned_rows}
 use Rattle.kernels.proofs.dst.inv_dst.Goals as goal
 
 pub rows_of-requires : goal.rows_of-requires
@@ -14,13 +14,6 @@ rows_of-requires c =
     let p = c.before.before in
     let s = p.before.before in
     subst (λ (xs : List ℤ). (length xs ≤ 16) × Rows s.args.mat.now xs) (sym p.clear.ensures) s.requires
-
-pub turn-requires : goal.turn-requires
-turn-requires c =
-    let r = c.before.before in
-    let p = r.before.before.before in
-    let s = p.before.before in
-    subst (λ (n : ℕ). n ≤ 16) (sym (rows_long s.args.mat.now p.clear.new.c r.rows_of.ensures ∙ ap length p.clear.ensures)) s.requires.0
 
 pub returns : goal.returns
 returns c =

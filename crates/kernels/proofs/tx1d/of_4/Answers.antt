@@ -1,26 +1,25 @@
--- `kernels::tx1d::of_4` meets its contract: each arm leaves the product of its code. Assumes nothing.
-use mathlib.Core.Path.{◌≡◌}
-use native.Mathlib.Omega.{arith}
-use borrow.Author.Tests.{leb-true}
+-- `kernels::tx1d::of_4` meets its contract: each arm leaves the product of its kind. Assumes nothing.
+use mathlib.Core.Path.{ap}
 use lib.IntN.{pos}
+use Rattle.tables.specs.Kinds.{code_of}
 use Rattle.tables.specs.Dense.{first_of, dense_of}
 use Rattle.kernels.proofs.ByCode.{by_code, times-left}
 use Rattle.kernels.proofs.tx1d.of_4.Goals as goal
 
-pub returns-in-0 : goal.returns-in-0
+pub returns-in-Dct : goal.returns-in-Dct
 unfolding dense_of
-returns-in-0 c = by_code (first_of c.args.live c.args.c.now) 4 c.in-0.is c.inv_dct4.ensures
+returns-in-Dct c = by_code (first_of c.args.live c.args.c.now) 4 (ap code_of c.in-Dct.is) c.inv_dct4.ensures
 
-pub returns-in-1 : goal.returns-in-1
+pub returns-in-Identity : goal.returns-in-Identity
 unfolding dense_of
-returns-in-1 c = by_code (first_of c.args.live c.args.c.now) 4 c.in-1.is (times-left (first_of c.args.live c.args.c.now) (pos 128) c.requires.1.1 c.inv_identity.ensures)
+returns-in-Identity c =
+    by_code (first_of c.args.live c.args.c.now) 4 (ap code_of c.in-Identity.is)
+    (times-left (first_of c.args.live c.args.c.now) (pos 128) c.requires.1.1 c.inv_identity.ensures)
 
-pub returns-in-2 : goal.returns-in-2
+pub returns-in-Adst : goal.returns-in-Adst
 unfolding dense_of
-returns-in-2 c = by_code (first_of c.args.live c.args.c.now) 4 c.in-2.is c.inv_adst4.ensures
+returns-in-Adst c = by_code (first_of c.args.live c.args.c.now) 4 (ap code_of c.in-Adst.is) c.inv_adst4.ensures
 
-pub returns-in_default : goal.returns-in_default
+pub returns-in-FlipAdst : goal.returns-in-FlipAdst
 unfolding dense_of
-returns-in_default c =
-    let e : c.args.code ≡ 3 = omega (arith, leb-true c.args.code 3 c.requires.0, c.in_default.in_default-own.rest.0.0.1, c.in_default.in_default-own.rest.0.1, c.in_default.in_default-own.rest.1) in
-    by_code (first_of c.args.live c.args.c.now) 4 e c.inv_flipadst4.ensures
+returns-in-FlipAdst c = by_code (first_of c.args.live c.args.c.now) 4 (ap code_of c.in-FlipAdst.is) c.inv_flipadst4.ensures

@@ -1,35 +1,49 @@
 -- `lanes::by_length::kernel8` meets its contract: in each arm the code is known, and the kernel's promise is its own. Assumes nothing.
 use mathlib.Core.Path.{◌≡◌, refl}
 use native.Mathlib.Omega.{arith}
+use lib.Dec.{lit<}
+use Rattle.whole.specs.Lanes.{col}
+use Rattle.whole.proofs.Parts.{rows-light}
+use Rattle.tables.specs.Dst.{adst8, ddt8}
 use Rattle.tables.specs.Dense.{dense_of}
-use Rattle.lanes.specs.Flat.{flat}
+use Rattle.tables.proofs.Rules.{dst-sizes}
 use Rattle.lanes.proofs.Picks.{highest-code, code_gives}
 use Rattle.lanes.proofs.by_length.kernel8.Goals as goal
-use Rattle.lanes.proofs.by_length.kernel8.Goals.{In_default}
-
-last : (c : In_default) → c.args.code ≡ 5
-last c = omega (arith, highest-code 8 c.args.code c.requires.0 8 5 refl refl)
 
 pub returns-in-0 : goal.returns-in-0
 unfolding dense_of
-returns-in-0 c = code_gives flat 8 c.args.xs.now c.g_dct8.new.e c.in-0.is c.g_dct8.ensures
+returns-in-0 g c = code_gives (col g.L.Lanes.lane) 8 c.args.xs.now c.g_dct8.new.e c.in-0.is c.g_dct8.ensures
 
 pub returns-in-1 : goal.returns-in-1
 unfolding dense_of
-returns-in-1 c = code_gives flat 8 c.args.xs.now c.times.new.e c.in-1.is c.times.ensures
+returns-in-1 g c = code_gives (col g.L.Lanes.lane) 8 c.args.xs.now c.times.new.e c.in-1.is c.times.ensures
+
+pub g_dst-requires : goal.g_dst-requires
+g_dst-requires g c = record { mat_len = (refl, rows-light 8 adst8 dst-sizes.1 (lit< tt)); ready = (c.requires.1, omega (arith, c.requires.2)) }
 
 pub returns-in-2 : goal.returns-in-2
 unfolding dense_of
-returns-in-2 c = code_gives flat 8 c.args.xs.now c.g_adst8.new.out c.in-2.is c.g_adst8.ensures
+returns-in-2 g c = code_gives (col g.L.Lanes.lane) 8 c.args.xs.now c.g_dst.new.out c.in-2.is c.g_dst.ensures
+
+pub g_dst-requires-in-3 : goal.g_dst-requires-in-3
+g_dst-requires-in-3 g c = record { mat_len = (refl, rows-light 8 adst8 dst-sizes.1 (lit< tt)); ready = (c.requires.1, omega (arith, c.requires.2)) }
 
 pub returns-in-3 : goal.returns-in-3
 unfolding dense_of
-returns-in-3 c = code_gives flat 8 c.args.xs.now c.g_flipadst8.new.out c.in-3.is c.g_flipadst8.ensures
+returns-in-3 g c = code_gives (col g.L.Lanes.lane) 8 c.args.xs.now c.g_dst-in-3.new.out c.in-3.is c.g_dst-in-3.ensures
+
+pub g_dst-requires-in-4 : goal.g_dst-requires-in-4
+g_dst-requires-in-4 g c = record { mat_len = (refl, rows-light 8 ddt8 dst-sizes.5 (lit< tt)); ready = (c.requires.1, omega (arith, c.requires.2)) }
 
 pub returns-in-4 : goal.returns-in-4
 unfolding dense_of
-returns-in-4 c = code_gives flat 8 c.args.xs.now c.g_ddt8.new.out c.in-4.is c.g_ddt8.ensures
+returns-in-4 g c = code_gives (col g.L.Lanes.lane) 8 c.args.xs.now c.g_dst-in-4.new.out c.in-4.is c.g_dst-in-4.ensures
+
+pub g_dst-requires-in_default : goal.g_dst-requires-in_default
+g_dst-requires-in_default g c = record { mat_len = (refl, rows-light 8 ddt8 dst-sizes.5 (lit< tt)); ready = (c.requires.1, omega (arith, c.requires.2)) }
 
 pub returns-in_default : goal.returns-in_default
 unfolding dense_of
-returns-in_default c = code_gives flat 8 c.args.xs.now c.g_flipddt8.new.out (last c.before.before.before) c.g_flipddt8.ensures
+returns-in_default g c =
+    let e : c.args.code ≡ 5 = omega (arith, highest-code 8 c.args.code c.requires.0 8 5 refl refl) in
+    code_gives (col g.L.Lanes.lane) 8 c.args.xs.now c.g_dst-in_default.new.out e c.g_dst-in_default.ensures

@@ -2,42 +2,33 @@
 use mathlib.Core.Path.{ap, ◌∙◌}
 use Prim.Native.Nat.{◌+◌}
 use native.Mathlib.Omega.{arith}
+use borrow.Author.Rules.{rules}
 use lib.ListN.{take}
 use lib.Seq.{take_all}
-use mir.Syntax.{w8, w32}
+use mir.Syntax.{w32}
 use mir.ValLaws.{to_z-of_z}
 use mir.Val.{to_z, of_z}
 use Rattle.whole.specs.Sums.{dot_z}
+use Rattle.whole.specs.Lanes.{col}
 use Rattle.whole.proofs.LaneTurns.{MulAdd, row-turn}
-use Rattle.lanes.specs.View.{lane}
-use Rattle.lanes.specs.Flat.{flat}
+use Rattle.lanes.proofs.Columns.{col-read}
+use Rattle.lanes.proofs.dot.g_dot.Given.{Over}
 use Rattle.lanes.proofs.dot.g_dot.Goals as goal
-use Rattle.lanes.proofs.dot.g_dot.Goals.{After-wide}
+use Rattle.lanes.proofs.dot.g_dot.Goals.{After-from}
 
-turn : (c : After-wide)
-    → MulAdd lane c.at.result (to_z w32 (of_z w32 c.wide.result)) c.loop-i.acc (λ k. dot_z (take (c.loop-i.i + 1) c.args.mat.now) (flat k c.args.v.now))
-turn c =
-    row-turn lane (λ k. flat k c.args.v.now) c.args.mat.now c.requires.1 c.loop-i.i c.at.result c.at.ensures
-    (to_z-of_z w32 _ (record { sfits = c.wide.type_inv }) ∙ c.wide.ensures ∙ to_z-of_z w8 _ (record { sfits = c.wide-arg-1.given })) c.loop-i.acc c.loop-i.invariant.1
-
-pub zero-acc-requires : goal.zero-acc-requires
-zero-acc-requires c = tt
-
-pub loop-i-init : goal.loop-i-init
-loop-i-init c = (omega arith, c.zero-acc.ensures)
-
-pub at-requires : goal.at-requires
-at-requires c = omega (arith, c.requires.0, c.loop-i-test.true)
-
-pub wide-requires : goal.wide-requires
-wide-requires c = tt
+turn : (g : Over) (c : After-from g)
+    → MulAdd g.L.Lanes.lane c.index-v-i.result (to_z w32 (of_z w32 c.from.result)) c.loop-i.acc (λ k. dot_z (take (c.loop-i.i + 1) c.args.mat.now) (col g.L.Lanes.lane k c.args.v.now))
+turn g c =
+    let at = g.L.Lanes.lane in
+    row-turn at (λ k. col at k c.args.v.now) c.args.mat.now c.requires.1 c.loop-i.i c.index-v-i.result (col-read at c.args.v.now (omega (arith, c.requires.0, c.loop-i-test.true)) c.index-v-i.is)
+    (to_z-of_z w32 _ (record { sfits = c.from.type_inv }) ∙ c.from.ensures ∙ search rules) c.loop-i.acc c.loop-i.invariant
 
 pub mul_add_n-acc-requires : goal.mul_add_n-acc-requires
-mul_add_n-acc-requires c = record { by_index = (turn c).mul; by_index_2 = (turn c).add }
+mul_add_n-acc-requires g c = record { by_index = (turn g c).mul; by_index_2 = (turn g c).add }
 
 pub loop-i-preserved : goal.loop-i-preserved
-loop-i-preserved c = (omega arith, (turn c.before).is c.mul_add_n-acc.result c.mul_add_n-acc.ensures)
+loop-i-preserved g c = (turn g c.before).is c.mul_add_n-acc.result c.mul_add_n-acc.ensures
 
 pub returns : goal.returns
-returns c k =
-    c.loop-i.invariant.1 k ∙ ap (λ l. dot_z l (flat k c.args.v.now)) (take_all c.loop-i.i c.args.mat.now c.loop-i-test.false)
+returns g c k =
+    c.loop-i.invariant k ∙ ap (λ l. dot_z l (col g.L.Lanes.lane k c.args.v.now)) (take_all c.loop-i.i c.args.mat.now c.loop-i-test.false)

@@ -1,6 +1,6 @@
 use mathlib.Core.Path.{◌≡◌}
 use mathlib.Core.Bool.{Bool}
-use Prim.Native.Nat.{ℕ, ◌≤◌, ◌-◌, ◌+◌, ◌*◌}
+use Prim.Native.Nat.{ℕ, ◌-◌, ◌+◌, ◌*◌}
 use lib.IntN.{pos}
 use Rattle.whole.specs.Sums.{item}
 use Rattle.whole.specs.Numbers.{in_range}
@@ -13,13 +13,7 @@ abbrev pub Left : (ℕ → Bool) → ℕ → Type 0
 Left ok k = seek ok 0 16 ≡ seek ok k (16 - k)
 
 abbrev pub invariant-loop-x : goal.invariant-loop-x
-invariant-loop-x l = (l.x ≤ 4) × (l.found ≡ 16) × Left (later_ok (in_range (pos 0) l.hi) (cell_at l.start l.stride 4) l.plane (item l.gains)) (l.r * 4 + l.x)
+invariant-loop-x l = Left (later_ok (in_range (pos 0) l.hi) (cell_at l.start l.stride 4) l.plane (item l.gains)) (l.r * 4 + l.x)
 
-abbrev pub decreases-loop-x : goal.decreases-loop-x
-decreases-loop-x l = 4 - l.x
-
-abbrev pub invariant-rows : goal.invariant-rows
-invariant-rows l = (l.r ≤ 4) × (l.found ≡ 16) × Left (later_ok (in_range (pos 0) l.hi) (cell_at l.start l.stride 4) l.plane (item l.gains)) (l.r * 4)
-
-abbrev pub decreases-rows : goal.decreases-rows
-decreases-rows l = 4 - l.r
+abbrev pub invariant-loop-r : goal.invariant-loop-r
+invariant-loop-r l = Left (later_ok (in_range (pos 0) l.hi) (cell_at l.start l.stride 4) l.plane (item l.gains)) (l.r * 4)

@@ -1,4 +1,4 @@
-use Prim.Native.Nat.{◌+◌, ◌*◌, ◌-◌, ◌≤◌}
+use Prim.Native.Nat.{◌+◌, ◌*◌}
 use lib.IntN.{pos}
 use lib.ListN.{get_or}
 use Rattle.whole.specs.Numbers.{clamp}
@@ -7,7 +7,4 @@ use Rattle.passes.specs.Passes.{scaling}
 use Rattle.passes.proofs.load.load_by.Given as goal
 
 abbrev pub invariant-loop-r : goal.invariant-loop-r
-invariant-loop-r l = (l.r ≤ l.rows) × Rewriting (pos 0) l.sw l.cols (λ k x. clamp l.lo l.hi (scaling l.scale (get_or l.coeff (k * l.down + x * l.across) (pos 0)))) l.initial.work l.work l.r
-
-abbrev pub decreases-loop-r : goal.decreases-loop-r
-decreases-loop-r l = l.rows - l.r
+invariant-loop-r l = Rewriting (pos 0) l.sw l.cols (λ k x. clamp l.lo l.hi (scaling l.scale (get_or l.coeff (k * l.down + x * l.across) (pos 0)))) l.initial.work l.work l.r

@@ -2,11 +2,11 @@
 use mathlib.Core.Path.{ap}
 use Prim.Native.Nat.{◌*◌}
 use lib.Dec.{lit<}
-use lib.IntN.{ℤ, pos, ◌+ℤ◌, ◌*ℤ◌}
+use lib.IntN.{pos, ◌+ℤ◌, ◌*ℤ◌}
 use mir.Syntax.{w32}
 use mir.Val.{to_z, of_z}
 use mir.ValLaws.{to_z-of_z}
-use Rattle.whole.proofs.Num.{Num, lit, given, times, shifted, ask, read}
+use Rattle.whole.proofs.Num.{Num, lit, given, times, shifted, read}
 use Rattle.passes.specs.Passes.{scaling}
 use Rattle.passes.proofs.Steps.{scale-size, coefficient-size}
 use Rattle.passes.proofs.load.scaled.Goals as goal
@@ -18,12 +18,6 @@ module _ (c : goal.Then-scale) where
   -- the sum, within 2147483550, which no bound by parts shows
   sum : Num (to_z w32 (of_z w32 (pos 181 *ℤ to_z w32 (of_z w32 c.args.v))) +ℤ pos 128) (pos 181 *ℤ c.args.v +ℤ pos 128) 2147483550
   sum = record { is = ap (λ z. z +ℤ pos 128) (read product w32 (lit< tt)).is; size = scale-size c.args.v (c.requires c.if-scale.true) }
-
-pub overflow_mul-result : goal.overflow_mul-result
-overflow_mul-result c = ask (product c) w32 (lit< tt)
-
-pub overflow_add-result : goal.overflow_add-result
-overflow_add-result c = ask (sum c) w32 (lit< tt)
 
 pub returns-then-scale : goal.returns-then-scale
 unfolding scaling

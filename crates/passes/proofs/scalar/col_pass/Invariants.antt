@@ -1,5 +1,4 @@
 use mathlib.Core.Path.{◌≡◌}
-use Prim.Native.Nat.{◌-◌}
 use lib.ListN.{length}
 use Rattle.whole.specs.Grid.{col_of}
 use Rattle.whole.proofs.Grid.{Lines}
@@ -8,6 +7,3 @@ use Rattle.passes.proofs.scalar.col_pass.Given as goal
 
 abbrev pub invariant-loop-x : goal.invariant-loop-x
 invariant-loop-x l = Lines (col_of l.sw) l.sh l.sw (first_dense l.n l.code l.live) l.initial.work l.work l.x × (length l.buf ≡ 32)
-
-abbrev pub decreases-loop-x : goal.decreases-loop-x
-decreases-loop-x l = l.sw - l.x

@@ -1,10 +1,8 @@
 -- `passes::scalar::one_col` meets its contract: the live numbers of the column are taken, put through the kernel, and put back. Assumes nothing.
 use mathlib.Core.Path.{sym, ap, ◌∙◌}
-use Prim.Native.Nat.{ℕ, ◌*◌, ◌≤◌}
-use native.Mathlib.Nat as N
-use native.Mathlib.Omega.{arith}
+use Prim.Native.Nat.{ℕ}
 use lib.IntN.{ℤ, pos}
-use lib.ListN.{length, get_or}
+use lib.ListN.{get_or}
 use Rattle.whole.specs.Grid.{grid_of}
 use Rattle.groups.proofs.Together.{live-left}
 use Rattle.passes.proofs.Living.{live-asks}
@@ -19,12 +17,6 @@ Start = lts.Start tie.the-claims reads.Pre reads.Post tie.handed_clauses
 module _ (s : Start) where
   abbrev column : ℕ → ℤ
   column r = grid_of s.args.sw s.args.work.now r s.args.x
-
-  room : s.args.live * s.args.sw ≤ length s.args.work.now
-  room = N.le_trans (N.mul-le-mul_right s.args.sw s.requires.code_value.5) s.requires.code_value.2
-
-pub take_col-requires : goal.take_col-requires
-take_col-requires c = (room c.before, c.requires.code_value.3, omega (arith, c.requires.code_value.4, c.requires.code_value.5))
 
 pub inv_tx1d-requires : goal.inv_tx1d-requires
 inv_tx1d-requires c =

@@ -1,35 +1,14 @@
 -- `passes::scalar::row_pass` meets its contract: after r turns the first r rows have gone through the kernel. Assumes nothing.
 use mathlib.Core.Path.{ap, ◌∙◌}
-use Prim.Native.Nat.{◌+◌, ◌*◌, ◌-◌, ◌≤◌}
+use Prim.Native.Nat.{◌*◌}
 use native.Mathlib.Nat as N
-use native.Mathlib.Omega.{arith}
 use lib.IntN.{pos}
 use lib.ListN.{length, get_or}
 use Rattle.whole.specs.Grid.{grid_of}
-use Rattle.whole.proofs.Cells.{row_in}
 use Rattle.whole.proofs.Fill.{length-tab, tab-at}
-use Rattle.whole.proofs.Grid.{lines_start, lines-done, row_is, rows_step}
+use Rattle.whole.proofs.Grid.{row_is, rows_step}
 use Rattle.passes.proofs.Living.{live-asks}
 use Rattle.passes.proofs.scalar.row_pass.Goals as goal
-
--- the row lies in the area
-end : (c : goal.In-loop-r) → c.loop-r.r * c.args.sw + c.args.sw ≤ length c.args.work.now
-end c = row_in _ c.loop-r-test.true c.requires.2
-
-pub loop-r-init : goal.loop-r-init
-loop-r-init c = lines_start
-
-pub overflow_mul-a : goal.overflow_mul-a
-overflow_mul-a c = omega (arith, end c)
-
-pub overflow_add-e : goal.overflow_add-e
-overflow_add-e c = omega (arith, end c)
-
-pub offset_bounds-work-a : goal.offset_bounds-work-a
-offset_bounds-work-a c = omega (arith, end c, c.well_formed.0.1)
-
-pub slice_bounds-inv_tx1d-end : goal.slice_bounds-inv_tx1d-end
-slice_bounds-inv_tx1d-end c = omega (arith, end c, c.loop-r.invariant.long)
 
 pub inv_tx1d-requires : goal.inv_tx1d-requires
 inv_tx1d-requires c =
@@ -44,9 +23,3 @@ inv_tx1d-requires c =
 pub loop-r-preserved : goal.loop-r-preserved
 loop-r-preserved c =
     rows_step c.loop-r.invariant c.loop-r-test.true c.requires.2 _ (N.add-sub_cancel_left (c.loop-r.r * c.args.sw) c.args.sw) c.inv_tx1d.new.c c.inv_tx1d.auto.c c.inv_tx1d.ensures
-
-pub shape_of-work : goal.shape_of-work
-shape_of-work c = c.loop-r.invariant.long
-
-pub returns : goal.returns
-returns c = λ r x h l. lines-done c.loop-r.invariant c.loop-r-test.false r x h l

@@ -1,4 +1,3 @@
-use Prim.Native.Nat.{◌-◌}
 use Rattle.whole.specs.Grid.{grid_of}
 use Rattle.whole.proofs.Grid.{Lines}
 use Rattle.tables.specs.Dense.{first_dense}
@@ -6,6 +5,3 @@ use Rattle.passes.proofs.scalar.row_pass.Given as goal
 
 abbrev pub invariant-loop-r : goal.invariant-loop-r
 invariant-loop-r l = Lines (grid_of l.sw) l.sw l.sh (first_dense l.n l.code l.live) l.initial.work l.work l.r
-
-abbrev pub decreases-loop-r : goal.decreases-loop-r
-decreases-loop-r l = l.sh - l.r

@@ -1,12 +1,8 @@
-use Prim.Native.Nat.{◌-◌}
 use lib.IntN.{pos}
-use lib.ListN.{length, get_or}
+use lib.ListN.{get_or}
 use Rattle.whole.specs.Numbers.{clamp, round_shift}
 use Rattle.whole.proofs.Fill.{InPlace}
 use Rattle.passes.proofs.step.settle.Given as goal
 
-abbrev pub invariant-loop-i : goal.invariant-loop-i
-invariant-loop-i l = InPlace (pos 0) l.initial.c (λ k. clamp l.lo l.hi (round_shift l.shift (get_or l.initial.c k (pos 0)))) l.c l.i
-
-abbrev pub decreases-loop-i : goal.decreases-loop-i
-decreases-loop-i l = length l.initial.c - l.i
+abbrev pub invariant-loop-z : goal.invariant-loop-z
+invariant-loop-z l = InPlace (pos 0) l.initial.c (λ k. clamp l.lo l.hi (round_shift l.shift (get_or l.initial.c k (pos 0)))) l.c l.z-index

@@ -1,8 +1,6 @@
 -- `passes::step::step` meets its contract: the first sw * sh numbers are lent as a part and settled. Assumes nothing.
-use mathlib.Core.Path.{sym, ap, ◌∙◌}
+use mathlib.Core.Path.{ap, ◌∙◌}
 use Prim.Native.Nat.{◌^◌}
-use native.Mathlib.Nat as N
-use lib.ListN.{length-take}
 use mir.Syntax.{w32}
 use mir.Val.{to_z, of_z}
 use Rattle.whole.specs.Numbers.{clamp, round_shift, lowest}
@@ -10,9 +8,6 @@ use Rattle.whole.specs.Grid.{grid_of}
 use Rattle.whole.proofs.Num.{back}
 use Rattle.whole.proofs.Grid.{grid-within, grid-mapped}
 use Rattle.passes.proofs.step.step.Goals as goal
-
-pub slice_bounds-settle-end-2 : goal.slice_bounds-settle-end-2
-slice_bounds-settle-end-2 c = sym (length-take _ _ ∙ N.min-eq_left c.requires.0)
 
 pub settle-requires : goal.settle-requires
 settle-requires c = (grid-within (2 ^ 30) c.args.sw c.args.sh c.args.work.now c.requires.3, c.requires.1)

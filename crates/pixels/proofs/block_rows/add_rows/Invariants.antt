@@ -7,7 +7,4 @@ use Rattle.pixels.specs.Rows.{served}
 use Rattle.pixels.proofs.block_rows.add_rows.Given as goal
 
 abbrev pub invariant-loop-y : goal.invariant-loop-y
-invariant-loop-y l = Rewriting (pos 0) l.stride l.w (λ r x. clamp (pos 0) l.hi (get_or l.initial.dst (r * l.stride + x) (pos 0) +ℤ served l.sw l.across l.down l.work r x)) l.initial.dst l.dst l.y × (l.y ≤ l.h)
-
-abbrev pub decreases-loop-y : goal.decreases-loop-y
-decreases-loop-y l = l.h - l.y
+invariant-loop-y l = Rewriting (pos 0) l.stride l.w (λ r x. clamp (pos 0) l.hi (get_or l.initial.dst (r * l.stride + x) (pos 0) +ℤ served l.sw l.across l.down l.work r x)) l.initial.dst l.dst l.y

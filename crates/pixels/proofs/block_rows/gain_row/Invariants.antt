@@ -6,7 +6,4 @@ use Rattle.whole.proofs.Fill.{InPlace}
 use Rattle.pixels.proofs.block_rows.gain_row.Given as goal
 
 abbrev pub invariant-loop-x : goal.invariant-loop-x
-invariant-loop-x l = InPlace (pos 0) l.initial.row (λ k. clamp (pos 0) l.hi (get_or l.initial.row k (pos 0) +ℤ get_or l.e (k / 2 ^ l.half) (pos 0))) l.row l.x
-
-abbrev pub decreases-loop-x : goal.decreases-loop-x
-decreases-loop-x l = length l.initial.row - l.x
+invariant-loop-x g l = InPlace (pos 0) l.initial.row (λ k. clamp (pos 0) l.hi (get_or l.initial.row k (pos 0) +ℤ get_or l.e (k / 2 ^ g.row.HALF) (pos 0))) l.row l.x

@@ -8,9 +8,6 @@ use Rattle.passes.specs.Passes.{settled_to}
 use Rattle.passes.proofs.Steps.{passes-size}
 use Rattle.pixels.proofs.calls.residuals.Goals as goal
 
-pub inv_txfm_passes-requires : goal.inv_txfm_passes-requires
-inv_txfm_passes-requires c = c.requires
-
 pub settle-requires : goal.settle-requires
 settle-requires c = (
   c.requires.0,
@@ -18,7 +15,3 @@ settle-requires c = (
   omega (arith, c.requires.2, c.inv_txfm_passes.auto.work),
   λ r x a b. subst (λ (z : ℤ). nat_abs z ≤ 2 ^ 30) (sym (c.inv_txfm_passes.ensures r x a b)) (passes-size c.args.rowwise c.args.tx c.args.txtp c.args.bd c.args.coeff.now c.requires.1 r x a b),
 )
-
-pub returns : goal.returns
-returns c =
-    λ r x a b. c.settle.ensures r x a b ∙ ap (settled_to c.args.bd (size_at c.args.tx).second) (c.inv_txfm_passes.ensures r x a b)

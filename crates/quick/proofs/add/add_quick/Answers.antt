@@ -5,65 +5,36 @@ use Prim.Native.Nat.{ℕ, ◌≤◌}
 use lib.IntN.{ℤ}
 use Rattle.passes.proofs.Steps.{shifts}
 use Rattle.answers.specs.declared.Answer.{Answer}
-use Rattle.answers.proofs.Verdicts.{kept, taken}
+use Rattle.answers.specs.Answers.{done}
+use Rattle.answers.proofs.Verdicts.{ends-err, ends-ok}
 use Rattle.tables.specs.declared.size.Size.{Size}
-use Rattle.verdicts.specs.Verdicts.{w_of, h_of, add_verdict}
-use Rattle.verdicts.proofs.Judging.{Kinds, Plane, add-passed}
+use Rattle.verdicts.specs.Verdicts.{add_verdict}
+use Rattle.verdicts.proofs.Judging.{add-done}
 use Rattle.fast.specs.Gains.{residual8, gained_by, Narrow, Seen}
 use Rattle.pixels.specs.Calls.{added, add_of}
 use Rattle.quick.proofs.Accepted.{add-seen, quick-narrow, quick-added}
 use Rattle.quick.proofs.add.add_quick.Goals as goal
-use Rattle.quick.proofs.add.add_quick.Lts as lts
-use Rattle.quick.proofs.add.add_quick.Reads as reads
-use Rattle.quick.proofs.add.add_quick.Tie as tie
 
-abbrev Else-a-ne0 : Type 0
-Else-a-ne0 = lts.Else1 tie.the-claims reads.Pre reads.Post
-
-abbrev Start : Type 0
-Start = lts.Start tie.the-claims reads.Pre reads.Post
-
-module _ (c : Else-a-ne0) where
-  abbrev s : Start
-  s = c.before.before.before
-
-  abbrev verdict : ℕ → Answer
-  verdict depth = add_verdict s.args.form.strict s.args.dst.now s.args.stride s.args.coeff.now s.args.txtp s.args.tx depth
-
-  done : (verdict s.args.bd).number ≡ 0
-  done = ap (λ (a : Answer). a.number) (sym c.judge_add-a.ensures) ∙ c.if-a-ne0.false
-
-  accepted : Kinds s.args.tx s.args.txtp s.args.bd × Plane (w_of s.args.tx) (h_of s.args.tx) s.args.bd s.args.dst.now s.args.stride s.args.coeff.now
-  accepted = add-passed s.args.form.strict s.args.dst.now s.args.stride s.args.coeff.now s.args.txtp s.args.tx s.args.bd done
-
-  seen : Seen (w_of s.args.tx) (h_of s.args.tx) s.args.stride s.args.dst.now
-  seen = add-seen s.args.form.strict s.args.dst.now s.args.stride s.args.coeff.now s.args.txtp s.args.tx (subst (λ (d : ℕ). (verdict d).number ≡ 0) s.requires.eight done)
-
-pub returns-then-a-ne0 : goal.returns-then-a-ne0
+pub returns-in-Err : goal.returns-in-Err
 unfolding add_of
-returns-then-a-ne0 c =
-    let j = c.judge_add-a in
-    let a = add_verdict c.args.form.strict c.args.dst.now c.args.stride c.args.coeff.now c.args.txtp c.args.tx c.args.bd in
-    ap (λ (z : Answer). (z, c.args.dst.now)) j.ensures
-    ∙ sym (kept a c.args.dst.now (added c.args.form.rowwise c.args.dst.now c.args.stride c.args.coeff.now c.args.txtp c.args.tx c.args.bd) (λ e. c.if-a-ne0.true (ap (λ (z : Answer). z.number) j.ensures ∙ e)))
+returns-in-Err c =
+    rw c.from.ensures (ends-err c.args.dst.now (added c.args.form.rowwise c.args.dst.now c.args.stride c.args.coeff.now c.args.txtp c.args.tx c.args.bd) c.in-Err.reason c.in-Err.ensures)
 
 pub size_of-s-requires : goal.size_of-s-requires
 size_of-s-requires c = c.requires.size
 
 pub add-requires : goal.add-requires
 add-requires c =
-    let z = c.size_of-s in
-    subst (λ (q : Size). Narrow q.w q.h q.first c.args.coeff.now × (q.second ≤ 16) × Seen q.w q.h c.args.stride c.args.dst.now) (sym z.ensures) (quick-narrow c.requires (accepted c.before.before).1.fits.long (accepted c.before.before).1.all.coefficients, (shifts c.args.tx c.requires.size).1, seen c.before.before)
+    let verdict : ℕ → Answer = λ depth. add_verdict c.args.form.strict c.args.dst.now c.args.stride c.args.coeff.now c.args.txtp c.args.tx depth in
+    let p = add-done _ _ _ _ _ _ _ c.in-Ok.ensures in
+    let seen = add-seen c.args.form.strict c.args.dst.now c.args.stride c.args.coeff.now c.args.txtp c.args.tx (subst (λ (d : ℕ). (verdict d).number ≡ 0) c.requires.eight (ap (λ (a : Answer). a.number) (sym c.in-Ok.ensures))) in
+    subst (λ (q : Size). Narrow q.w q.h q.first c.args.coeff.now × (q.second ≤ 16) × Seen q.w q.h c.args.stride c.args.dst.now) (sym c.size_of-s.ensures) (quick-narrow c.requires p.1.fits.long p.1.all.coefficients, (shifts c.args.tx c.requires.size).1, seen)
 
-pub returns : goal.returns
+pub returns-in-Ok : goal.returns-in-Ok
 unfolding add_of
-returns c =
-    let j = c.judge_add-a in
-    let z = c.size_of-s in
-    let a = verdict c.before.before.before.before c.args.bd in
+returns-in-Ok c =
     let made = added c.args.form.rowwise c.args.dst.now c.args.stride c.args.coeff.now c.args.txtp c.args.tx c.args.bd in
-    ap (λ (t : List ℤ). (j.result, t))
-    (c.add.ensures ∙ ap (λ (q : Size). gained_by q.w q.h (residual8 c.args.form.rowwise q.w q.h q.first q.second c.args.coeff.now) c.args.dst.now c.args.stride) z.ensures
+    rw c.finished.ensures (ap (λ (t : List ℤ). (done, t))
+    (c.add.ensures ∙ ap (λ (q : Size). gained_by q.w q.h (residual8 c.args.form.rowwise q.w q.h q.first q.second c.args.coeff.now) c.args.dst.now c.args.stride) c.size_of-s.ensures
     ∙ quick-added c.args.form.rowwise c.args.dst.now c.args.stride c.args.coeff.now c.args.txtp c.args.tx c.args.bd c.requires)
-    ∙ ap (λ (q : Answer). (q, made)) j.ensures
-    ∙ sym (taken a c.args.dst.now made (done c.before.before.before.before))
+    ∙ ends-ok c.args.dst.now made c.in-Ok.ensures)

@@ -1,11 +1,7 @@
-use Prim.Native.Nat.{◌-◌, ◌≤◌}
 use Rattle.wide_rows.specs.Lines.{line}
 use Rattle.narrow.specs.Painted.{Painted}
 use Rattle.quick_bytes.specs.Held.{reached_of}
 use Rattle.quick_bytes.proofs.columns.gain_rows.Given as goal
 
 abbrev pub invariant-loop-y : goal.invariant-loop-y
-invariant-loop-y l = (l.y ≤ l.h) × Painted 0 l.from l.stride l.w l.y (reached_of l.initial.dst l.from l.stride l.shift (λ r x. line l.res x r)) l.initial.dst l.dst
-
-abbrev pub decreases-loop-y : goal.decreases-loop-y
-decreases-loop-y l = l.h - l.y
+invariant-loop-y l = Painted 0 l.from l.stride l.w l.y (reached_of l.initial.dst l.from l.stride l.shift (λ r x. line l.res x r)) l.initial.dst l.dst

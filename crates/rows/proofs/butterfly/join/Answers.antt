@@ -8,6 +8,7 @@ use lib.ListN.{length, take, length-take}
 use Rattle.whole.specs.Parts.{joined, JoinRoom}
 use Rattle.whole.specs.Sums.{tab, dot_z, row_at}
 use Rattle.whole.proofs.Fill.{length-tab}
+use Rattle.rows.proofs.Dots.{as_read, left_by}
 use Rattle.rows.proofs.Front.{front-is, front-count, front-inside}
 use Rattle.rows.proofs.butterfly.join.Goals as goal
 use Rattle.rows.proofs.butterfly.join.Lts as lts
@@ -27,20 +28,23 @@ module _ (p : After-products) where
   abbrev row : ℕ → ℤ
   row i = dot_z (row_at n p.args.mat.now i) p.args.odd.now
 
+  products_are : p.products.new.out ≡ tab n row
+  products_are = left_by p.args.mat.now p.args.odd.now n p.products.ensures
+
   sums-are : (q : List ℤ) → take n (p.products.new.out ++ q) ≡ tab n row
-  sums-are q = front-is n row p.products.ensures q ∙ p.products.ensures
+  sums-are q = front-is n row products_are q ∙ products_are
 
 pub slice_bounds-products-end : goal.slice_bounds-products-end
 slice_bounds-products-end c = simp length-take (omega arith)
 
 pub products-requires : goal.products-requires
-products-requires c = let s = c.before in (simp length-take (omega arith), s.requires.odd_len_bound.2)
+products-requires c = let s = c.before in (simp length-take (omega arith), as_read s.requires.odd_len_bound.2)
 
 pub slice_bounds-sums-end-2 : goal.slice_bounds-sums-end-2
-slice_bounds-sums-end-2 c = let p = c.before.before in front-inside (n p) (row p) p.products.ensures _
+slice_bounds-sums-end-2 c = let p = c.before.before in front-inside (n p) (row p) (products_are p) _
 
 pub slice_bounds-fold-end : goal.slice_bounds-fold-end
-slice_bounds-fold-end c = let p = c.before.before.before in front-count (n p) (row p) p.products.ensures _
+slice_bounds-fold-end c = let p = c.before.before.before in front-count (n p) (row p) (products_are p) _
 
 pub fold-requires : goal.fold-requires
 fold-requires c =

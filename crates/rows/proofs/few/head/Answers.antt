@@ -137,12 +137,6 @@ offset_bounds-c-n c = omega (arith, sizes (s c))
 pub bounds-c-n : goal.bounds-c-n
 bounds-c-n c = simp length-set (omega (arith, sizes (s c), c.loop-m.invariant.long, c.loop-m-test.true))
 
-pub overflow_add-m : goal.overflow_add-m
-overflow_add-m c = omega (arith, sizes (s c), c.loop-m-test.true)
-
-pub loop-m-smaller : goal.loop-m-smaller
-loop-m-smaller c = omega (arith, c.loop-m-test.true)
-
 pub loop-m-preserved : goal.loop-m-preserved
 loop-m-preserved c =
     inward-more c.loop-m.invariant c.loop-m-test.true

@@ -1,4 +1,3 @@
-use Prim.Native.Nat.{◌-◌}
 use lib.IntN.{pos}
 use Rattle.whole.specs.Sums.{fold_at}
 use Rattle.whole.proofs.Inward.{Inward}
@@ -8,6 +7,3 @@ use Rattle.rows.proofs.few.head.Given as goal
 
 abbrev pub invariant-loop-m : goal.invariant-loop-m
 invariant-loop-m l = Inward (pos 0) l.h l.initial.c (fold_at l.h (even_at l.h l.t (first_of l.live l.initial.c)) (odd_at l.h l.t (first_of l.live l.initial.c))) l.c l.m
-
-abbrev pub decreases-loop-m : goal.decreases-loop-m
-decreases-loop-m l = l.h - l.m

@@ -5,16 +5,13 @@ use lib.IntN.{ℤ}
 use lib.ListN.{length}
 use Rattle.whole.specs.Sums.{dense}
 use Rattle.rows.specs.Rows.{Rows}
+use Rattle.rows.proofs.Dots.{as_read, left_by}
 use Rattle.rows.proofs.square.short_rows.Goals as goal
 
-pub short_products-requires : goal.short_products-requires
-short_products-requires c =
-    let p = c.before.before.before in
-    let s = p.before.before in
-    subst (λ (l : List ℤ). (length s.args.c.now ≡ length l) × Rows s.args.mat.now l) (sym p.shorten.ensures) (refl, s.requires.1)
+pub products-requires : goal.products-requires
+products-requires c =
+    let q = subst (λ (l : List ℤ). (length c.args.c.now ≡ length l) × Rows c.args.mat.now l) (sym c.shorten.ensures) (refl, c.requires.1) in
+    (q.0, as_read q.1)
 
 pub returns : goal.returns
-returns c =
-    let p = c.before.before.before.before.before in
-    let s = p.before.before in
-    c.short_products.ensures ∙ ap (λ l. dense (length l) s.args.mat.now l) p.shorten.ensures
+returns c = left_by _ _ _ c.products.ensures ∙ ap (λ l. dense (length l) c.args.mat.now l) c.shorten.ensures

@@ -1,5 +1,4 @@
 -- `rows::sums::clear` meets its contract: the places from live on are 0 one after the other. Assumes nothing.
-use Prim.Native.Nat.{◌-◌}
 use native.Mathlib.Omega.{arith}
 use Rattle.tables.proofs.Clearing.{clear-start, clear-more, clear-done}
 use Rattle.rows.proofs.sums.clear.Goals as goal
@@ -7,14 +6,8 @@ use Rattle.rows.proofs.sums.clear.Goals as goal
 pub loop-i-init : goal.loop-i-init
 loop-i-init c = clear-start
 
-pub loop-i-smaller : goal.loop-i-smaller
-loop-i-smaller c = omega (arith, c.loop-i.invariant.long)
-
 pub loop-i-preserved : goal.loop-i-preserved
 loop-i-preserved c = clear-more c.loop-i.invariant (omega arith)
-
-pub shape_of-c : goal.shape_of-c
-shape_of-c c = omega (arith, c.loop-i.invariant.long)
 
 pub returns : goal.returns
 returns c = clear-done c.loop-i.invariant (omega arith)

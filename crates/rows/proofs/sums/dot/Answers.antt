@@ -1,57 +1,35 @@
 -- `rows::sums::dot` meets its contract: after j turns the sum is that of the first j products, and no partial sum exceeds the spread. Assumes nothing.
-use mathlib.Core.Path.{refl, sym, ap, ◌∙◌}
-use mathlib.Core.List.{List}
-use Prim.Native.Nat.{ℕ, ◌-◌}
-use native.Mathlib.Nat.{lt_of_le_of_lt}
-use native.Mathlib.Numerals.{add-one}
+use mathlib.Core.Path.{◌≡◌}
+use mathlib.Core.List.{map}
 use native.Mathlib.Omega.{arith}
-use lib.IntN.{ℤ, pos}
-use lib.ListN.{get_or, take}
-use lib.Seq.{take_all}
+use lib.IntN.{pos}
+use lib.ListN.{get_or}
 use mir.Syntax.{w32}
 use mir.Val.{to_z}
 use borrow.Author.Rules.{rules}
-use Rattle.whole.specs.Sums.{dot_z}
-use Rattle.whole.proofs.Sums.{dot-step, step-size}
-use Rattle.whole.proofs.MulAdd.{Turn, cast_fits, product-fits, sum_fits, sum_is}
+use Rattle.rows.proofs.Dots.{Term, product_fits, sum_fits, sum_next, term}
 use Rattle.rows.proofs.sums.dot.Goals as goal
 
-module _ (c : goal.After-acc-in-loop-j-1) where
-  abbrev row : List ℤ
-  row = c.args.mat.now
-
-  abbrev xs : List ℤ
-  xs = c.args.v.now
-
-  abbrev j : ℕ
-  j = c.loop-j.j
-
-  turn : Turn (get_or row j (pos 0)) (get_or xs j (pos 0)) (to_z w32 c.loop-j.acc-bits) (dot_z (take j row) xs)
-  turn =
-      record {
-        table = c.acc-1.given;
-        input = c.acc-in-loop-j-1.given;
-        sum = c.loop-j.invariant.1;
-        room = lt_of_le_of_lt (step-size j row xs) c.requires.1;
-      }
-
-pub loop-j-init : goal.loop-j-init
-loop-j-init c = (search rules, refl)
-
-pub overflow_cast-acc : goal.overflow_cast-acc
-overflow_cast-acc c = cast_fits (get_or c.args.mat.now c.loop-j.j (pos 0)) c.acc-1.given
-
 pub overflow_mul-acc : goal.overflow_mul-acc
-overflow_mul-acc c = product-fits (turn c)
+overflow_mul-acc g c =
+    let e : c.from.result ≡ get_or c.args.mat.now c.loop-j.j (pos 0) = search rules in
+    let q : c.wide.result ≡ g.T.Number.value c.index-v-j.result = c.wide.ensures in
+    let t : Term c.args.mat.now (map g.T.Number.value c.args.v.now) c.loop-j.j (to_z w32 c.loop-j.acc-bits) c.from.result c.wide.result =
+    term g.T.Number.value c.args.v.now {y = c.index-v-j.result} e c.from.type_inv q c.wide.type_inv c.index-v-j.is (omega arith) c.loop-j.invariant c.requires.1 in
+    product_fits t
 
 pub overflow_add-acc : goal.overflow_add-acc
-overflow_add-acc c = sum_fits (turn c)
+overflow_add-acc g c =
+    let e : c.from.result ≡ get_or c.args.mat.now c.loop-j.j (pos 0) = search rules in
+    let q : c.wide.result ≡ g.T.Number.value c.index-v-j.result = c.wide.ensures in
+    let t : Term c.args.mat.now (map g.T.Number.value c.args.v.now) c.loop-j.j (to_z w32 c.loop-j.acc-bits) c.from.result c.wide.result =
+    term g.T.Number.value c.args.v.now {y = c.index-v-j.result} e c.from.type_inv q c.wide.type_inv c.index-v-j.is (omega arith) c.loop-j.invariant c.requires.1 in
+    sum_fits t
 
 pub loop-j-preserved : goal.loop-j-preserved
-loop-j-preserved c = (
-  omega arith,
-  sum_is (turn c) ∙ sym (dot-step (j c) (row c) (xs c)) ∙ ap (λ n. dot_z (take n (row c)) (xs c)) (sym (add-one (j c))),
-)
-
-pub returns : goal.returns
-returns c = c.loop-j.invariant.1 ∙ ap (λ l. dot_z l c.args.v.now) (take_all c.loop-j.j c.args.mat.now c.loop-j-test.false)
+loop-j-preserved g c =
+    let e : c.from.result ≡ get_or c.args.mat.now c.loop-j.j (pos 0) = search rules in
+    let q : c.wide.result ≡ g.T.Number.value c.index-v-j.result = c.wide.ensures in
+    let t : Term c.args.mat.now (map g.T.Number.value c.args.v.now) c.loop-j.j (to_z w32 c.loop-j.acc-bits) c.from.result c.wide.result =
+    term g.T.Number.value c.args.v.now {y = c.index-v-j.result} e c.from.type_inv q c.wide.type_inv c.index-v-j.is (omega arith) c.loop-j.invariant c.requires.1 in
+    sum_next t

@@ -1,11 +1,8 @@
 use mathlib.Core.Path.{◌≡◌}
-use Prim.Native.Nat.{◌-◌, ◌≤◌}
-use lib.ListN.{length, take}
+use mathlib.Core.List.{map}
+use lib.ListN.{take}
 use Rattle.whole.specs.Sums.{dot_z}
 use Rattle.rows.proofs.sums.dot.Given as goal
 
 abbrev pub invariant-loop-j : goal.invariant-loop-j
-invariant-loop-j l = (l.j ≤ length l.mat) × (l.acc ≡ dot_z (take l.j l.mat) l.v)
-
-abbrev pub decreases-loop-j : goal.decreases-loop-j
-decreases-loop-j l = length l.mat - l.j
+invariant-loop-j g l = l.acc ≡ dot_z (take l.j l.mat) (map g.T.Number.value l.v)

@@ -1,11 +1,8 @@
-use Prim.Native.Nat.{◌-◌}
+use mathlib.Core.Path.{◌≡◌}
+use Prim.Native.Nat.{ℕ, ◌<◌}
 use lib.IntN.{pos, nat_abs}
-use lib.ListN.{length, get_or}
-use Rattle.whole.proofs.Fill.{Filling}
+use lib.ListN.{get_or}
 use Rattle.stream.proofs.nums.narrowed.Given as goal
 
 abbrev pub invariant-loop-i : goal.invariant-loop-i
-invariant-loop-i l = Filling 0 (length l.list) (λ k. nat_abs (get_or l.list k (pos 0))) l.out l.i
-
-abbrev pub decreases-loop-i : goal.decreases-loop-i
-decreases-loop-i l = length l.list - l.i
+invariant-loop-i l = (k : ℕ) → k < l.i → get_or l.out k 0 ≡ nat_abs (get_or l.list k (pos 0))

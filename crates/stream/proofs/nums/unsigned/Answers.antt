@@ -1,20 +1,8 @@
--- `nums::unsigned` meets its contract: at turn i the first i numbers are made. Assumes nothing.
-use mathlib.Core.Path.{sym, ap, ◌∙◌}
-use native.Mathlib.Omega.{arith}
+-- `nums::unsigned` meets its contract: each number is turned. Assumes nothing.
+use mathlib.Core.Path.{sym, ◌∙◌}
 use lib.IntN.{pos}
-use lib.ListN.{get_or}
-use mir.Syntax.{w32}
-use mir.Val.{of_z}
-use mir.ValLaws.{to_z-of_z}
-use Rattle.whole.proofs.Fill.{fill_start, fill_more, fill_done}
+use Rattle.whole.proofs.Fill.{filled-all}
 use Rattle.stream.proofs.nums.unsigned.Goals as goal
 
-pub loop-i-init : goal.loop-i-init
-loop-i-init c = fill_start (sym c.requires)
-
-pub loop-i-preserved : goal.loop-i-preserved
-loop-i-preserved c =
-    fill_more c.loop-i.invariant (omega arith) (c.bits.ensures ∙ ap (of_z w32) (to_z-of_z w32 (get_or c.args.list.now c.loop-i.i (pos 0)) (record { sfits = c.bits-arg-1.given })))
-
 pub returns : goal.returns
-returns c = fill_done c.loop-i.invariant (omega arith)
+returns c = filled-all 0 c.turn.new.out _ _ (c.turn.auto.out ∙ sym c.requires) (λ k h. c.turn.ensures k (pos 0) 0 h)

@@ -1,32 +1,28 @@
--- `judge::judge_add` meets its contract: refusals 1 to 4, then what the plane asks. Assumes nothing.
+-- `judge::judge_add` meets its contract: refusals 1 to 4 did not come, so the sides are those of a size. Assumes nothing.
 use mathlib.Core.Path.{sym, ap, ◌∙◌, subst}
 use lib.ListN.{length}
+use Rattle.std.proofs.Common.{rules}
 use Rattle.answers.specs.declared.Answer.{Answer}
 use Rattle.answers.specs.Answers.{done}
 use Rattle.tables.specs.declared.size.Size.{Size}
-use Rattle.verdicts.specs.Verdicts.{Sides, numbers, on_plane, add_verdict}
-use Rattle.verdicts.proofs.Judging.{Kinds, kinds-passed, kinds-opens, kinds-stays, sides}
+use Rattle.verdicts.specs.Verdicts.{w_of, h_of, Sides, numbers, on_plane, add_verdict}
+use Rattle.verdicts.proofs.Judging.{kinds-passed, kinds-opens, kinds-err, sides}
 use Rattle.verdicts.proofs.judge.judge_add.Goals as goal
-
--- refusals 1 to 4 did not come
-passed : (c : goal.Else-a-ne0) → Kinds c.args.tx c.args.txtp c.args.bd
-passed c = (kinds-passed c.args.tx c.args.txtp c.args.bd done (ap (λ (a : Answer). a.number) (sym c.judge_kinds-a.ensures) ∙ c.if-a-ne0.false)).0
-
-pub returns-then-a-ne0 : goal.returns-then-a-ne0
-unfolding add_verdict
-returns-then-a-ne0 c =
-    c.judge_kinds-a.ensures ∙ kinds-stays c.args.tx c.args.txtp c.args.bd _ (λ e. c.if-a-ne0.true (ap (λ (a : Answer). a.number) c.judge_kinds-a.ensures ∙ e))
-
-pub size_of-s-requires : goal.size_of-s-requires
-size_of-s-requires c = (passed c).size
 
 pub judge_plane-requires : goal.judge_plane-requires
 judge_plane-requires c =
-    let k = passed c.before in
-    (k.to, subst (λ (z : Size). Sides z.w z.h) (sym c.size_of-s.ensures) (sides c.args.tx k.size))
+    let k = (kinds-passed c.args.tx c.args.txtp c.args.bd done (ap (λ (a : Answer). a.number) (sym c.in_ok-judge_kinds.ensures))).0 in
+    (k.to, subst (λ (z : Size). Sides z.w z.h) (sym c.size_of.ensures) (sides c.args.tx k.size))
+
+pub returns-in_err-judge_kinds : goal.returns-in_err-judge_kinds
+unfolding add_verdict
+returns-in_err-judge_kinds c =
+    let h = kinds-err c.args.tx c.args.txtp c.args.bd (on_plane (w_of c.args.tx) (h_of c.args.tx) (length c.args.dst.now) c.args.stride (length c.args.coeff.now) (numbers c.args.strict (w_of c.args.tx) (h_of c.args.tx) c.args.bd c.args.coeff.now c.args.dst.now c.args.stride)) c.in_err-judge_kinds.field-0.0 c.in_err-judge_kinds.ensures in
+    search (rules, h)
 
 pub returns : goal.returns
 unfolding add_verdict
 returns c =
-    c.judge_plane.ensures ∙ ap (λ (q : Size). on_plane q.w q.h (length c.args.dst.now) c.args.stride (length c.args.coeff.now) (numbers c.args.strict q.w q.h c.args.bd c.args.coeff.now c.args.dst.now c.args.stride)) c.size_of-s.ensures
-    ∙ sym (kinds-opens c.args.tx c.args.txtp c.args.bd _ (passed c.before.before))
+    let k = (kinds-passed c.args.tx c.args.txtp c.args.bd done (ap (λ (a : Answer). a.number) (sym c.in_ok-judge_kinds.ensures))).0 in
+    c.judge_plane.ensures ∙ ap (λ (q : Size). on_plane q.w q.h (length c.args.dst.now) c.args.stride (length c.args.coeff.now) (numbers c.args.strict q.w q.h c.args.bd c.args.coeff.now c.args.dst.now c.args.stride)) c.size_of.ensures
+    ∙ sym (kinds-opens c.args.tx c.args.txtp c.args.bd _ k)

@@ -9,4 +9,4 @@ pub returns : goal.returns
 returns c =
     let e = c.dct4.ensures in
     let s = c.args in
-    (grown 4 s.d dct4 half8 dct8 s.w.now _ _ e.0 c.grow8.ensures (λ xs. refl), grown-room 1 c.grow8.ensures e.1)
+    (grown 4 s.d dct4 half8 dct8 s.w.now _ _ e.0 c.grow.ensures (λ xs. refl), grown-room 1 c.grow.ensures e.1)

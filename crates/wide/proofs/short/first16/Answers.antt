@@ -1,15 +1,10 @@
 -- `wide::short::first16` meets its contract: the rows of the first four inputs are the dense product, for the others are zero. Assumes nothing.
 use mathlib.Core.Path.{refl}
-use lib.Dec.{lit≤}
-use borrow.Author.Rules.{rules}
 use Rattle.tables.specs.Dct.{dct16}
 use Rattle.wide.proofs.Beginnings.{begun-front, begun-room}
 use Rattle.wide.proofs.short.first16.Goals as goal
 
-pub begin16-requires : goal.begin16-requires
-begin16-requires c = (search rules, lit≤ tt, search rules)
-
 pub returns : goal.returns
 returns c =
-    let g = c.begin16.ensures in
+    let g = c.begin.ensures in
     (begun-front 12 8 dct16 c.args.w.now refl c.requires.2 g (λ xs. refl), begun-room g)

@@ -1,11 +1,6 @@
-use Prim.Native.Nat.{◌-◌}
-use lib.IntN.{pos}
-use lib.ListN.{get_or}
+use Rattle.std.proofs.Common.{pos, get_or}
 use Rattle.whole.proofs.Fill.{Filling}
 use Rattle.wide_rows.proofs.rows.put.Given as goal
 
 abbrev pub invariant-loop-l : goal.invariant-loop-l
-invariant-loop-l l = Filling (pos 0) 16 (λ k. get_or l.r k (pos 0)) l.out l.l
-
-abbrev pub decreases-loop-l : goal.decreases-loop-l
-decreases-loop-l l = 16 - l.l
+invariant-loop-l l = Filling (pos 0) 16 (λ x. get_or l.r x (pos 0)) l.out l.l

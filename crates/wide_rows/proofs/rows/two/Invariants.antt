@@ -1,12 +1,12 @@
-use mathlib.Core.List.{[], ◌∷◌}
-use Prim.Native.Nat.{◌+◌, ◌-◌, ◌^◌}
+use Rattle.std.proofs.Common.{◌+◌, ◌^◌}
 use Rattle.whole.specs.Sums.{dot_z}
 use Rattle.wide_rows.specs.Lines.{taps}
 use Rattle.wide_rows.proofs.Pairs.{Under, Pairing}
 use Rattle.wide_rows.proofs.rows.two.Given as goal
 
 abbrev pub invariant-loop-l : goal.invariant-loop-l
-invariant-loop-l l = Pairing (λ k. dot_z (l.k0 ∷ l.k2 ∷ []) (taps 2 k (l.d + l.d) l.w)) (λ k. dot_z (l.k1 ∷ l.k3 ∷ []) (taps 2 (k + l.d) (l.d + l.d) l.w)) l.lo l.hi l.l × Under (2 ^ 23) (λ k. dot_z (l.k0 ∷ l.k2 ∷ []) (taps 2 k (l.d + l.d) l.w)) l.l
-
-abbrev pub decreases-loop-l : goal.decreases-loop-l
-decreases-loop-l l = 16 - l.l
+invariant-loop-l l =
+    record {
+      rows : Pairing (λ x. dot_z l.k (taps 2 x (l.d + l.d) l.w)) (λ x. dot_z l.h (taps 2 (x + l.d) (l.d + l.d) l.w)) l.lo l.hi l.l;
+      small : Under (2 ^ 23) (λ x. dot_z l.k (taps 2 x (l.d + l.d) l.w)) l.l;
+    }

@@ -1,11 +1,7 @@
 use mathlib.Core.Path.{◌≡◌}
-use Prim.Native.Nat.{◌-◌, ◌≤◌}
-use lib.Seq.{slice}
+use lib.ListN.{drop}
 use Rattle.words.specs.Words.{size_of, size_from}
 use Rattle.words.proofs.decimal.digits.Given as goal
 
-abbrev pub invariant-loop-i : goal.invariant-loop-i
-invariant-loop-i l = (l.from ≤ l.i) × (l.i ≤ l.to) × (size_of (slice l.from l.to l.line) ≡ size_from l.v (slice l.i l.to l.line))
-
-abbrev pub decreases-loop-i : goal.decreases-loop-i
-decreases-loop-i l = l.to - l.i
+abbrev pub invariant-loop-b : goal.invariant-loop-b
+invariant-loop-b l = size_of l.word ≡ size_from l.v (drop l.b-index l.word)

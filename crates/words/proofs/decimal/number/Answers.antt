@@ -1,25 +1,15 @@
--- `decimal::number` meets its contract: the size and the sign of the word are its number's. Assumes nothing.
-use mathlib.Core.Path.{refl, sym, ap, ◌∙◌}
-use borrow.Author.Tests.{le-leb, lt-leb}
-use lib.ListN.{set}
-use Rattle.whole.proofs.Num.{back}
-use Rattle.words.specs.Words.{is_number, number_of}
-use Rattle.words.proofs.Decimals.{word_first}
+-- `decimal::number` meets its contract: the digits of a word stand behind its '-', if it has one. Assumes nothing.
+use Rattle.words.proofs.Decimals.{plain, minus_none, minus-some}
 use Rattle.words.proofs.decimal.number.Goals as goal
 
-pub returns-then-v-gt-MOST : goal.returns-then-v-gt-MOST
-unfolding is_number
-returns-then-v-gt-MOST c = record {
-  value = rw (← c.size-v.ensures) (sym (lt-leb _ 2147483647 c.if-v-gt-MOST.true));
-  list_after = refl;
-}
+pub overflow_sub-result : goal.overflow_sub-result
+overflow_sub-result c = (minus-some c.args.word.now c.requires c.if-word-eq45.true c.in_ok-z.z c.in_ok-z.ensures).0
+
+pub returns-in_err-z : goal.returns-in_err-z
+returns-in_err-z c = rw c.from_residual.ensures (minus_none c.args.word.now c.requires c.if-word-eq45.true c.in_err-z.ensures)
+
+pub returns-then-word-eq45 : goal.returns-then-word-eq45
+returns-then-word-eq45 c = let h = minus-some c.args.word.now c.requires c.if-word-eq45.true c.in_ok-z.z c.in_ok-z.ensures in (h.1, h.2)
 
 pub returns : goal.returns
-unfolding is_number number_of
-returns c =
-    let e = c.size-v.ensures in
-    let sign = word_first c.args.line.now c.args.from c.args.to c.requires.1 c.requires.0 in
-    record {
-      value = rw (← e) (sym (le-leb _ 2147483647 c.if-v-gt-MOST.false));
-      list_after = ap (set c.args.list.now c.args.place) (back c.signed-z.type_inv ∙ c.signed-z.ensures ∙ rw (sign, ← e));
-    }
+returns c = plain c.args.word.now c.digits-2.result c.if-word-eq45.false c.digits-2.ensures

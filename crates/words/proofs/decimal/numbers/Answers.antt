@@ -1,15 +1,18 @@
 -- `decimal::numbers` meets its contract: a turn passes over a word, and fills a place of the list. Assumes nothing.
-use mathlib.Core.Path.{◌≡◌, refl, sym, ◌∙◌}
+use mathlib.Core.Path.{◌≡◌, refl, sym, ap, ◌∙◌}
 use Prim.Native.Nat.{ℕ, ◌+◌, ◌-◌, ◌<◌}
 use native.Mathlib.Omega.{arith}
 use lib.IntN.{ℤ}
 use lib.ListN.{length, get_or, drop}
-use borrow.Author.Tests.{not-true, not-false}
 use mathlib.Core.Bool.{false}
 use mathlib.Core.List.{List, [], ◌∷◌}
 use lib.Seq.{slice}
 use Rattle.whole.specs.Search.{seek}
-use Rattle.words.specs.Words.{blank, passed_at, words_of}
+use borrow.Author.Rules.{rules}
+use mir.Syntax.{w32}
+use mir.Val.{to_z, of_z}
+use Rattle.words.specs.Words.{blank, passed_at, words_of, is_number, number_of}
+use Rattle.words.proofs.Runs.{part}
 use Rattle.words.proofs.Splits.{words-none, passed-blanks, passed-stop, passed-word}
 use Rattle.words.proofs.Takes.{Taking, take-start, take_more, take_done, take-full, take-other}
 use Rattle.words.proofs.decimal.numbers.Goals as goal
@@ -33,21 +36,19 @@ returns-then-list-count c = let t = left _ _ _ _ _ _ _ c.loop-at-test.true c.loo
   taken = take-full _ _ t (omega arith);
 }
 
-pub returns-then-not-number : goal.returns-then-not-number
-returns-then-not-number c =
+pub returns-in_default-clause-taken : goal.returns-in_default-clause-taken
+returns-in_default-clause-taken c =
     let t = left _ _ _ _ _ _ _ c.loop-at-test.true c.loop-at.invariant.1 c.loop-at.invariant.2 c.pass-end.ensures.value in
-    let f = not-true c.number.result c.if-not-number.true-raw in
-    record {
-      count_in_bounds = t.room;
-      taken = rw (rw f at c.number.ensures.list_after) (take-other _ _ t (omega arith) (sym c.number.ensures.value ∙ f));
-    }
+    take-other _ _ t (omega arith) (ap is_number (sym (part _ _ c.args.line.now (omega arith))) ∙ c.in_default.ensures)
 
 pub loop-at-preserved : goal.loop-at-preserved
 loop-at-preserved c =
     let t = left _ _ _ _ _ _ _ c.loop-at-test.true c.loop-at.invariant.1 c.loop-at.invariant.2 c.pass-end.ensures.value in
-    let f = not-false c.number.result c.if-not-number.false-raw in
     let p = c.pass-at-in-loop-at.ensures in
-    (p.lower_bound.1, passed-stop c.args.line.now _ _ c.pass-end.ensures.lower_bound.1 p.value, rw (rw f at c.number.ensures.list_after, ← (passed-blanks c.args.line.now c.pass-end.result c.pass-at-in-loop-at.result c.pass-end.ensures.lower_bound.1 p.value)) (take_more _ _ t (omega arith) (sym c.number.ensures.value ∙ f)))
+    let e = part c.loop-at.at c.pass-end.result c.args.line.now (omega arith) in
+    let f : to_z w32 (of_z w32 c.in-Some.z) ≡ c.in-Some.z = search rules in
+    let z = f ∙ c.in-Some.ensures.1 ∙ ap number_of e in
+    (p.lower_bound.1, passed-stop c.args.line.now _ _ c.pass-end.ensures.lower_bound.1 p.value, rw (z, ← (passed-blanks c.args.line.now c.pass-end.result c.pass-at-in-loop-at.result c.pass-end.ensures.lower_bound.1 p.value)) (take_more _ _ t (omega arith) (ap is_number (sym e) ∙ c.in-Some.ensures.0)))
 
 pub returns : goal.returns
 returns c =

@@ -1,6 +1,0 @@
--- `fast::add::add_large` meets its contract: areas for any side, cleared. Assumes nothing.
-use Rattle.fast.proofs.Blocks.{more-columns}
-use Rattle.fast.proofs.add.add_large.Goals as goal
-
-pub run-requires : goal.run-requires
-run-requires c = (c.requires.0, c.requires.1, c.requires.2, more-columns c.requires.0.across c.requires.0.down)

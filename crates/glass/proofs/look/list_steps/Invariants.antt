@@ -1,8 +1,0 @@
-use Prim.Native.Nat.{◌-◌, ◌≤◌}
-use Rattle.glass.proofs.look.list_steps.Given as goal
-
-abbrev pub invariant-loop-i : goal.invariant-loop-i
-invariant-loop-i g l = l.i ≤ l.n
-
-abbrev pub decreases-loop-i : goal.decreases-loop-i
-decreases-loop-i g l = l.n - l.i
