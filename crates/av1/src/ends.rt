@@ -32,7 +32,7 @@ impl Ends {
         requires { length t.now ≤ 64 }
         ensures { Finds (number_ok self.lo self.hi t.now) (length t.now) result }
     {
-        ranges::find_outside(t, 0, t.len(), t.len(), 1, self.lo, self.hi)
+        crate::first_bad(t, self.lo, self.hi)
     }
 
     // Refusal 15 of a number between the steps that lies outside it, at its place.

@@ -1,10 +1,11 @@
 // The inverse DCT of AV1 (document 02, section 12), as a call on a lent slice.
 #![tactic(auto)]
 
-ghost use Rattle.std.specs.Prelude.{◌≡◌};
+ghost use Rattle.std.specs.Prelude.{◌≡◌, ◌≤◌, length};
 ghost use Rattle.answers.specs.Reasons.{verdict_of};
+ghost use Rattle.ranges.specs.Cells.{Finds};
 ghost use Rattle.av1.specs.Tables.{length_ok};
-ghost use Rattle.av1.specs.Calls.{front, dct_of};
+ghost use Rattle.av1.specs.Calls.{number_ok, front, dct_of};
 
 use answers::{Answer, Reason, Slice};
 use ends::Ends;
@@ -23,6 +24,14 @@ fn has_length(n: usize) -> bool
     ensures { result ≡ length_ok n }
 {
     matches!(n, 4 | 8 | 16 | 32 | 64)
+}
+
+// The index of the first number outside lo .. hi.
+pub fn first_bad(t: &[i32], lo: i32, hi: i32) -> Option<usize>
+    requires { length t.now ≤ 64 }
+    ensures { Finds (number_ok lo hi t.now) (length t.now) result }
+{
+    ranges::find_outside(t, 0, t.len(), t.len(), 1, lo, hi)
 }
 
 // The refusals of the inverse DCT that need no step.

@@ -4,6 +4,7 @@
 --     idle-untouched   and no number outside the lines is changed
 --     pass-of-lanes    what a pass promises, with any record of lanes
 --     pass-of-four, pass-of-eight    the same with records of four lanes and of eight
+--     fours-pass, eights-pass        the same of the passes of four and of eight lines that run
 --     line-by-line     a line's numbers after a pass depend on that line alone
 --     row-pass         what the row pass promises, with one lane, four or eight
 --     other-rows       two work areas that differ in one row alone differ in no other row after the row pass
@@ -34,6 +35,10 @@ use Rattle.lanes.specs.declared.Lanes as Lanes
 use Rattle.std.specs.declared.clone.Clone as Clone
 use Rattle.groups.proofs.lane_pass.Kinds as pass-kinds
 use Rattle.groups.proofs.lane_pass.Reads as pass
+use Rattle.groups.proofs.fours.lane_pass.Kinds as fours-kinds
+use Rattle.groups.proofs.fours.lane_pass.Reads as fours
+use Rattle.groups.proofs.eights.lane_pass.Kinds as eights-kinds
+use Rattle.groups.proofs.eights.lane_pass.Reads as eights
 use Rattle.passes.proofs.block.rows.Kinds as rows_kinds
 use Rattle.passes.proofs.block.rows.Reads as rows
 
@@ -63,6 +68,14 @@ module _ (row : RattleType) (laws : Laws row) (copy : IsCopy row) (lanes : Lanes
   pub pass-of-eight : lanes.WIDTH ≡ 8 → (κs : Lfts 2) (c : Dens κs (pass-kinds.ps row laws copy)) (left : AtExit (ended_of 2 (pass-kinds.ps row laws copy) (pass-kinds.r row laws copy)) κs) → pass.Learnt row laws copy lanes lanes-dict clone clone-dict κs c tt left
       → LinesLeft c.1.0 c.1.1.0 c.1.1.1.0 c.1.1.1.1.0 (first_dense c.1.1.1.1.1.0 c.1.1.1.1.1.1.0 c.1.1.1.1.1.1.1.0) c.0.now left.0.now
   pass-of-eight = Abreast.eights-left row laws copy lanes lanes-dict clone clone-dict
+
+pub fours-pass : (κs : Lfts 1) (c : Dens κs fours-kinds.ps) (left : AtExit (ended_of 1 fours-kinds.ps fours-kinds.r) κs) → fours.Learnt κs c tt left
+    → LinesLeft c.1.0 c.1.1.0 c.1.1.1.0 c.1.1.1.1.0 (first_dense c.1.1.1.1.1.0 c.1.1.1.1.1.1.0 c.1.1.1.1.1.1.1.0) c.0.now left.0.now
+fours-pass = Abreast.fours-pass
+
+pub eights-pass : (κs : Lfts 1) (c : Dens κs eights-kinds.ps) (left : AtExit (ended_of 1 eights-kinds.ps eights-kinds.r) κs) → eights.Learnt κs c tt left
+    → LinesLeft c.1.0 c.1.1.0 c.1.1.1.0 c.1.1.1.1.0 (first_dense c.1.1.1.1.1.0 c.1.1.1.1.1.1.0 c.1.1.1.1.1.1.1.0) c.0.now left.0.now
+eights-pass = Abreast.eights-pass
 
 pub line-by-line : (count p s m : ℕ) (K : List ℤ → List ℤ) (t w u v : List ℤ) → LinesLeft count p s m K t u → LinesLeft count p s m K w v → (k : ℕ) → k < count
     → ((x : ℕ) → x < m → get_or t (k * s + x * p) (pos 0) ≡ get_or w (k * s + x * p) (pos 0)) → (x : ℕ) → x < m → get_or u (k * s + x * p) (pos 0) ≡ get_or v (k * s + x * p) (pos 0)

@@ -4,8 +4,11 @@ ghost use Rattle.std.specs.Prelude.{◌*◌, ◌≤◌, ◌≡◌, length};
 use screen::Screen;
 use std::io;
 
-// The samples of a row, at most 14 to a line.
+// The samples of a row, at most 14 to a line. A row of none is an empty line.
 fn row(rt: &impl Print, samples: &[i32]) -> io::Result<()> {
+    if samples.is_empty() {
+        return lines::line(rt, samples);
+    }
     for part in samples.chunks(14) {
         lines::line(rt, part)?;
     }

@@ -164,6 +164,6 @@ pub fn keep(log: &Log<'_, impl Print>, plane: &[i32], kept: &mut [i32]) -> io::R
     requires { length kept.old ≡ length plane.now }
     ensures { kept.new ≡ plane.now }
 {
-    kept.copy_from_slice(plane);
+    whole::copy(kept, plane);
     log.event(&"keep")
 }

@@ -5,6 +5,8 @@
 --     idle-kept                    and no place outside the lines is changed
 --     LinesLeft, pass-left         what a pass leaves: the promise of `lane_pass`, for any record
 --     fours-left, eights-left      the same of records of four lanes and of eight
+--     fours-pass, eights-pass      the same of the passes that run: the promise of `fours::lane_pass` and of `eights::lane_pass`
+--     eights-group                 what a group in records of eight leaves: the promise of `eights::through`
 --     lines-alone                  two areas that agree on a line leave the same numbers in it, whatever the others hold
 use mathlib.Core.Path.{◌≡◌, sym, ap, ◌∙◌}
 use mathlib.Core.List.{List}
@@ -29,6 +31,12 @@ use Rattle.groups.proofs.through.Kinds as group-kinds
 use Rattle.groups.proofs.through.Reads as group
 use Rattle.groups.proofs.lane_pass.Kinds as pass-kinds
 use Rattle.groups.proofs.lane_pass.Reads as pass
+use Rattle.groups.proofs.eights.through.Kinds as eights-group-kinds
+use Rattle.groups.proofs.eights.through.Reads as eights-through
+use Rattle.groups.proofs.fours.lane_pass.Kinds as fours-kinds
+use Rattle.groups.proofs.fours.lane_pass.Reads as fours
+use Rattle.groups.proofs.eights.lane_pass.Kinds as eights-kinds
+use Rattle.groups.proofs.eights.lane_pass.Reads as eights
 
 -- a line of w numbers through K
 pub line-alone : (K : List ℤ → List ℤ) (w : ℕ) (f g : ℕ → ℤ) → ((x : ℕ) → x < w → f x ≡ g x) → (x : ℕ) → get_or (K (tab w f)) x (pos 0) ≡ get_or (K (tab w g)) x (pos 0)
@@ -39,6 +47,10 @@ module _ (row : RattleType) (laws : Laws row) (copy : IsCopy row) (lanes : Lanes
   pub group-left : (κs : Lfts 2) (c : Dens κs (group-kinds.ps row laws copy)) (left : AtExit (ended_of 2 (group-kinds.ps row laws copy) (group-kinds.r row laws copy)) κs) → group.Learnt row laws copy lanes lanes-dict clone clone-dict κs c tt left
       → GroupGives c.1.1.1.1.1.1.1.1.0 c.1.1.1.1.0 (first_dense c.1.1.1.1.1.0 c.1.1.1.1.1.1.0 c.1.1.1.1.1.1.1.0) (spot c.1.0 c.1.1.0 c.1.1.1.0) c.0.now left.0.now
   group-left κs c left p = p
+
+pub eights-group : (κs : Lfts 1) (c : Dens κs eights-group-kinds.ps) (left : AtExit (ended_of 1 eights-group-kinds.ps eights-group-kinds.r) κs) → eights-through.Learnt κs c tt left
+    → GroupGives c.1.1.1.1.1.1.1.1.0 c.1.1.1.1.0 (first_dense c.1.1.1.1.1.0 c.1.1.1.1.1.1.0 c.1.1.1.1.1.1.1.0) (spot c.1.0 c.1.1.0 c.1.1.1.0) c.0.now left.0.now
+eights-group κs c left p = p
 
 module _ (L m : ℕ) (K : List ℤ → List ℤ) (sp : ℕ → ℕ → ℕ) where
   pub idle-alone : (t s u v : List ℤ) → GroupGives L m K sp t u → GroupGives L m K sp s v → ((k i : ℕ) → k < L → i < m → get_or t (sp k i) (pos 0) ≡ get_or s (sp k i) (pos 0))
@@ -65,6 +77,15 @@ module _ (row : RattleType) (laws : Laws row) (copy : IsCopy row) (lanes : Lanes
   pub eights-left : lanes.WIDTH ≡ 8 → (κs : Lfts 2) (c : Dens κs (pass-kinds.ps row laws copy)) (left : AtExit (ended_of 2 (pass-kinds.ps row laws copy) (pass-kinds.r row laws copy)) κs) → pass.Learnt row laws copy lanes lanes-dict clone clone-dict κs c tt left
       → LinesLeft c.1.0 c.1.1.0 c.1.1.1.0 c.1.1.1.1.0 (first_dense c.1.1.1.1.1.0 c.1.1.1.1.1.1.0 c.1.1.1.1.1.1.1.0) c.0.now left.0.now
   eights-left e = pass-left
+
+-- the passes that run
+pub fours-pass : (κs : Lfts 1) (c : Dens κs fours-kinds.ps) (left : AtExit (ended_of 1 fours-kinds.ps fours-kinds.r) κs) → fours.Learnt κs c tt left
+    → LinesLeft c.1.0 c.1.1.0 c.1.1.1.0 c.1.1.1.1.0 (first_dense c.1.1.1.1.1.0 c.1.1.1.1.1.1.0 c.1.1.1.1.1.1.1.0) c.0.now left.0.now
+fours-pass κs c left p = p
+
+pub eights-pass : (κs : Lfts 1) (c : Dens κs eights-kinds.ps) (left : AtExit (ended_of 1 eights-kinds.ps eights-kinds.r) κs) → eights.Learnt κs c tt left
+    → LinesLeft c.1.0 c.1.1.0 c.1.1.1.0 c.1.1.1.1.0 (first_dense c.1.1.1.1.1.0 c.1.1.1.1.1.1.0 c.1.1.1.1.1.1.1.0) c.0.now left.0.now
+eights-pass κs c left p = p
 
 pub lines-alone : (count p s m : ℕ) (K : List ℤ → List ℤ) (t w u v : List ℤ) → LinesLeft count p s m K t u → LinesLeft count p s m K w v → (k : ℕ) → k < count
     → ((x : ℕ) → x < m → get_or t (k * s + x * p) (pos 0) ≡ get_or w (k * s + x * p) (pos 0)) → (x : ℕ) → x < m → get_or u (k * s + x * p) (pos 0) ≡ get_or v (k * s + x * p) (pos 0)

@@ -58,7 +58,7 @@ gathered-more f {n} {j} h = go (under n j)
 pub short : (n : ℕ) {m : ℕ} → cut n ≡ m → m ≤ 32
 short n e = subst (λ (k : ℕ). k ≤ 32) e (cut_most n)
 
-module _ {R : Type 0} (at : R → ℕ → ℤ) (L : ℕ) (sp : ℕ → ℕ → ℕ) (t : List ℤ) (n m live : ℕ) (side : cut n ≡ m) (few : live ≤ m) (ls : List R) (long : length ls ≡ 32) (got : (k : ℕ) → take live (col at k ls) ≡ tab live (λ i. get_or (tab L (λ l. get_or t (sp l i) (pos 0))) k (pos 0))) where
+module _ {R : Type 0} (at : R → ℕ → ℤ) (L : ℕ) (sp : ℕ → ℕ → ℕ) (t : List ℤ) (n m live : ℕ) (side : cut n ≡ m) (few : live ≤ m) (ls : List R) (long : m ≤ length ls) (got : (k : ℕ) → take live (col at k ls) ≡ tab live (λ i. get_or (tab L (λ l. get_or t (sp l i) (pos 0))) k (pos 0))) where
   abbrev inputs : ℕ → List ℤ
   inputs k = take m (col at k ls)
 
@@ -67,7 +67,7 @@ module _ {R : Type 0} (at : R → ℕ → ℤ) (L : ℕ) (sp : ℕ → ℕ → �
   front k i h = get_or-take m (col at k ls) i (pos 0) (N.lt_of_lt_of_le h few) ∙ sym (get_or-take live (col at k ls) i (pos 0) h)
 
   count : (k : ℕ) → length (inputs k) ≡ m
-  count k = length-take m (col at k ls) ∙ N.min-eq_left (subst (λ (j : ℕ). m ≤ j) (sym (col-length at k ls ∙ long)) (short n side))
+  count k = length-take m (col at k ls) ∙ N.min-eq_left (subst (λ (j : ℕ). m ≤ j) (sym (col-length at k ls)) long)
 
   is : (k i : ℕ) → k < L → i < live → get_or (inputs k) i (pos 0) ≡ get_or t (sp k i) (pos 0)
   is k i a h =

@@ -1,6 +1,9 @@
 // Lines through a kernel together, as many as a record has lanes: a line is a row or a column, and line k has its number x at place k * s + x * p of the work area. Where fewer lines are left than a record has lanes, the other lanes are idle: they are gathered as zeros, and never written back.
 #![tactic(auto)]
 
+pub mod fours; // Four lanes: four lines in records of four.
+pub mod eights; // Eight lanes: eight lines in records of eight, or those that are left.
+
 ghost use Rattle.std.specs.Prelude.{◌≡◌, true, ℕ, ◌+◌, ◌*◌, ◌^◌, ◌≤◌, ◌<◌, pos, nat_abs, length, get_or, take};
 ghost use Rattle.std.specs.Mem.{type_size};
 ghost use Rattle.whole.specs.Sums.{tab};
@@ -101,6 +104,32 @@ fn scatter<L: Lanes>(
     }
 }
 
+// The lines of a group through their kernel, with areas of R records for its inputs and for its results.
+fn in_areas<L: Lanes, const R: usize>(
+    work: &mut [i32],
+    base: usize,
+    p: usize,
+    s: usize,
+    m: usize,
+    n: usize,
+    code: usize,
+    live: usize,
+    lines: usize,
+)
+    requires space { R * type_size L.row < 2 ^ 63 }
+    requires code_value { (has_kind n code ≡ true) × (cut n ≡ m) × (m ≤ R) × (live ≤ m) × Places lines m (spot base p s) (length work.old) × (lines ≤ L.WIDTH) × (0 < lines) }
+    requires by_index { (k i : ℕ) → k < lines → i < live → nat_abs (get_or work.old (spot base p s k i) (pos 0)) ≤ 2 ^ 19 }
+    ensures by_index_2 { (k i : ℕ) → k < lines → i < m → get_or work.new (spot base p s k i) (pos 0) ≡ get_or (first_dense n code live (tab m (λ y. get_or work.old (spot base p s k y) (pos 0)))) i (pos 0) }
+    ensures by_index_3 { (z : ℕ) → ((k i : ℕ) → k < lines → i < m → z ≡ spot base p s k i → ⊥) → get_or work.new z (pos 0) ≡ get_or work.old z (pos 0) }
+{
+    let z = L::zero();
+    let mut ls = [z; R];
+    let mut rs = [z; R];
+    gather(&work[..], &mut ls[..], base, p, s, live, lines);
+    lanes::lane_tx1d_into(&mut ls[..], &mut rs[..], n, code, live);
+    scatter(work, &rs[..], base, p, s, m, lines);
+}
+
 // The lines of a group, of m numbers, of which the first live count, through the kernel of length n and kind code.
 pub fn through<L: Lanes>(
     work: &mut [i32],
@@ -119,12 +148,11 @@ pub fn through<L: Lanes>(
     ensures by_index_2 { (k i : ℕ) → k < lines → i < m → get_or work.new (spot base p s k i) (pos 0) ≡ get_or (first_dense n code live (tab m (λ y. get_or work.old (spot base p s k y) (pos 0)))) i (pos 0) }
     ensures by_index_3 { (z : ℕ) → ((k i : ℕ) → k < lines → i < m → z ≡ spot base p s k i → ⊥) → get_or work.new z (pos 0) ≡ get_or work.old z (pos 0) }
 {
-    let z = L::zero();
-    let mut ls = [z; 32];
-    let mut rs = [z; 32];
-    gather(&work[..], &mut ls[..], base, p, s, live, lines);
-    lanes::lane_tx1d_into(&mut ls, &mut rs, n, code, live);
-    scatter(work, &rs[..], base, p, s, m, lines);
+    if m <= 8 {
+        in_areas::<L, 8>(work, base, p, s, m, n, code, live, lines);
+    } else {
+        in_areas::<L, 32>(work, base, p, s, m, n, code, live, lines);
+    }
 }
 
 // Each of count lines of m numbers, of which the first live count, through the kernel of length n and kind code, as many at a time as a record has lanes; of the last group fewer may be there.

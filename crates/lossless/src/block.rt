@@ -32,16 +32,18 @@ fn first_leaving(
     requires { Addable plane.now start stride gains.now }
     ensures { Finds (later_ok (in_range (pos 0) hi) (cell_at start stride 4) plane.now (item gains.now)) 16 result }
 {
-    for r in 0..4 {
+    let mut found = None;
+    'rows: for r in 0..4 {
         let base = start + r * stride;
         for x in 0..4 {
             let z = plane[base + x] + gains[r * 4 + x];
             if !ranges::inside(z, 0, hi) {
-                return Some(r * 4 + x);
+                found = Some(r * 4 + x);
+                break 'rows;
             }
         }
     }
-    None
+    found
 }
 
 // The refusals 8 and 10.

@@ -143,6 +143,7 @@ fn fits(
     match (command, s) {
         (Command::Begin, _) => fits_screen(list),
         (_, None) => Err(Bad::NoScreen),
+        (_, Some(s)) if s.stride == 0 => Err(Bad::NoScreen),
         (Command::Changes(Act::One(call)), Some(s)) => fits_call(call, s, list, count),
         (Command::Changes(Act::Undo), Some(_)) => fits_undo(natural(list[0]), remaining),
         (Command::Keep, Some(_)) => Ok(()),

@@ -1,5 +1,6 @@
 // The commands by their words, and how many numbers each takes.
-ghost use Rattle.std.specs.Prelude.{◌≤◌};
+ghost use Rattle.std.specs.Prelude.{◌≤◌, ◌≡◌, true, IfSome};
+ghost use Rattle.words.specs.Words.{alike};
 
 use screen::command::{Act, Call, Command, Look};
 use std::fmt;
@@ -132,6 +133,11 @@ const COMMANDS: [Entry; 13] = [
 ];
 
 // The command of a word.
-pub fn find(word: &[u8]) -> Option<Entry> {
-    COMMANDS.iter().find(|e| e.word.as_bytes() == word).copied()
+pub fn find(word: &[u8]) -> Option<Entry>
+    ensures { IfSome result (λ e. alike word.now e.word.now ≡ true) }
+{
+    COMMANDS
+        .iter()
+        .find(|e| words::same(word, 0, word.len(), e.word.as_bytes()))
+        .copied()
 }

@@ -6,7 +6,7 @@
 --     past-redrawn, past-changed, past-withdrawn, past-folded, past-obey     each command
 --     past-undone, undo-done, count-undone     the newest step taken back: it is accepted, and one step less remains
 --     past_after                 the memory after any command
---     obey-number, fits-number     a call by a command's number: what it does, and that a change alone asks for something
+--     obey-number, after-number, fits-number     a call and a command by its number: what it does; that a change alone asks for something
 --     Undoing, undoing-more     a loop that takes back the newest steps
 --     redrawn-kept, redrawn-new      a block that is refused, and one that is drawn
 --     change-is, fold_is         the calls behind a change and a fold
@@ -54,7 +54,7 @@ use Rattle.screen.specs.Screens.{Sound}
 use Rattle.screen.specs.Commands.{call_of, CallFits}
 use Rattle.screen.specs.Steps.{wanted, levels_to}
 use Rattle.screen.proofs.Planes.{screen-part}
-use Rattle.past.specs.Commands.{emptied, redrawn_of, changed_of, folded_of, obey_of, undone, after_of, cells, Past, Held}
+use Rattle.past.specs.Commands.{emptied, redrawn_of, changed_of, folded_of, obey_of, undone, act_of, after_of, cells, Past, Held}
 
 pub past-good : (a : Area) (m : Lent) (p : Past a m) → Good a p.still m
 past-good a m p = led-good a p.still m p.led
@@ -164,6 +164,15 @@ obey-number a n depth list m = go (eqb n 2) (eqb n 3) (eqb n 4)
     go false true z = refl
     go false false true = refl
     go false false false = refl
+
+pub after-number : (a : Area) (n depth : ℕ) (list : List ℤ) (m : Lent) → after_of a (act_of n) depth list m
+    ≡ cond (eqb n 6) (undone a (argument list 0) m)
+    (cond (eqb n 2) (redrawn_of a depth list m) (cond (eqb n 3) (changed_of a depth list m) (cond (eqb n 4) (withdraw_of a (argument list 0) m) (folded_of a m)))).1
+after-number a n depth list m = go (eqb n 6) ∙ ap (λ (x : Answer × Lent). cond (eqb n 6) (undone a (argument list 0) m) x.1) (obey-number a n depth list m)
+  where
+    go : (x : Bool) → after_of a (cond x Undo (One (call_of n))) depth list m ≡ cond x (undone a (argument list 0) m) (obey_of a (call_of n) depth list m).1
+    go true = refl
+    go false = refl
 
 pub fits-number : (n : ℕ) (s : Screen) (list : List ℤ) → (n ≡ 3 → Samples s.depth (wanted list)) → CallFits (call_of n) s list
 fits-number n s list f = go (eqb n 2) (eqb n 3) refl (eqb n 4)

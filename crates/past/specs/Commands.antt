@@ -7,12 +7,13 @@
 --     folded_of             a fold
 --     obey_of               one call: a block, a change, a withdrawal or a fold
 --     undone a k m         the k newest steps taken back, newest first
+--     act_of n              the command that changes the memory by its number: 6 is an undo, any other a call
 --     after_of              the memory after a command
 --     Past a m             calls and folds have led to m from some still: its steps, taken from that still, leave its plane
 --     Held s room ..       the same of a screen that is there (`There`), in its rooms; where there is none, nothing
 --     Obeyable, Seen       what the commands that change the memory ask for, and those that only look
 --     Roomy                the rooms in which everything is kept
-use Rattle.std.specs.Prelude.{◌≡◌, List, ℕ, zero, suc, ◌*◌, ◌≤◌, Option, Some, None, ℤ, pos, length, take, set}
+use Rattle.std.specs.Prelude.{◌≡◌, cond, eqb, List, ℕ, zero, suc, ◌*◌, ◌≤◌, Option, Some, None, ℤ, pos, length, take, set}
 use Rattle.answers.specs.declared.Answer.{Answer}
 use Rattle.answers.specs.Answers.{ends}
 use Rattle.whole.specs.Sums.{tab}
@@ -29,6 +30,7 @@ use Rattle.screen.specs.declared.command.Act.{Act}
 use Rattle.screen.specs.declared.command.Act.TheVariants.{One, Undo}
 use Rattle.screen.specs.Planes.{argument, drawn_of}
 use Rattle.screen.specs.Screens.{There}
+use Rattle.screen.specs.Commands.{call_of}
 use Rattle.screen.specs.Steps.{wanted, levels_to}
 
 abbrev pub area_of : Screen → List ℤ → Area
@@ -59,6 +61,9 @@ obey_of a Fold depth list m = folded_of a m
 abbrev pub undone : Area → ℕ → Lent → Lent
 undone a zero m = m
 undone a (suc k) m = (undo_of a (undone a k m)).1
+
+abbrev pub act_of : ℕ → Act
+act_of n = cond (eqb n 6) Undo (One (call_of n))
 
 abbrev pub after_of : Area → Act → ℕ → List ℤ → Lent → Lent
 after_of a (One c) depth list m = (obey_of a c depth list m).1

@@ -22,7 +22,7 @@ pub fn put_levels(l: &mut [i32], i: usize, level: &[i32])
 {
     let a = 16 * i;
     let e = a + 16;
-    l[a..e].copy_from_slice(level);
+    whole::copy(&mut l[a..e], level);
 }
 
 // The items from place a + N on, up to place e + N, move down by N.

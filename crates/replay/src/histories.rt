@@ -1,10 +1,11 @@
 // A case of a call on a history: read, run and answered.
 ghost use Rattle.std.specs.Prelude.{◌*◌, ◌≤◌, length};
 
+use crate::cases::Room;
 use crate::words;
 use answers::Answer;
 use std::io::Read;
-use stream::slices::{LIMIT, Stop, TRIMMED, TRIMMED_BYTES};
+use stream::slices::{Stop, TRIMMED, TRIMMED_BYTES};
 use stream::{nums, slices};
 
 // A call on a history, with what it is handed besides the plane and the memory.
@@ -34,14 +35,11 @@ struct Lines {
     rows: usize,
 }
 
-fn read_lines(input: &mut impl Read) -> Result<Lines, Stop> {
-    let stride = words::read_usize(input)?;
-    let width = words::read_usize(input)?;
-    let rows = words::read_usize(input)?;
+fn as_lines(stride: u64, width: u64, rows: u64) -> Result<Lines, Stop> {
     Ok(Lines {
-        stride,
-        width,
-        rows,
+        stride: words::as_usize(stride)?,
+        width: words::as_usize(width)?,
+        rows: words::as_usize(rows)?,
     })
 }
 
@@ -119,18 +117,23 @@ fn answer(
 }
 
 // Reads a case after its words, runs and answers it.
-fn case(input: &mut impl Read, rt: &impl Print, call: Call, lines: Lines) -> Result<(), Stop> {
+fn case(
+    input: &mut impl Read,
+    rt: &impl Print,
+    room: &mut Room,
+    call: Call,
+    lines: Lines,
+) -> Result<(), Stop> {
+    let Room { a, b, .. } = room;
     let mut bytes = [0u8; TRIMMED_BYTES];
-    let mut a = [0i32; LIMIT];
-    let mut b = [0i32; LIMIT];
     let mut s = [0i32; TRIMMED];
     let mut l = [0i32; TRIMMED];
     let mut x = [0i32; TRIMMED];
     let level = match call {
-        Call::Step(_) => slices::read_slice(input, &mut bytes, &mut a)?,
+        Call::Step(_) => slices::read_slice(input, &mut bytes, a)?,
         _ => 0,
     };
-    let plane = slices::read_slice(input, &mut bytes, &mut b)?;
+    let plane = slices::read_slice(input, &mut bytes, b)?;
     let steps = slices::read_trimmed(input, &mut bytes, &mut s)?;
     let levels = slices::read_trimmed(input, &mut bytes, &mut l)?;
     let index = slices::read_trimmed(input, &mut bytes, &mut x)?;
@@ -148,25 +151,44 @@ fn case(input: &mut impl Read, rt: &impl Print, call: Call, lines: Lines) -> Res
 }
 
 // A case of a step, which has its depth before the lines and its place behind them.
-pub fn step(input: &mut impl Read, rt: &impl Print) -> Result<(), Stop> {
-    let depth = words::read_u32(input)?;
-    let lines = read_lines(input)?;
-    let row = words::read_usize(input)?;
-    let column = words::read_usize(input)?;
-    case(input, rt, Call::Step(Place { depth, row, column }), lines)
+pub fn step(input: &mut impl Read, rt: &impl Print, room: &mut Room) -> Result<(), Stop> {
+    let [depth, stride, width, rows, row, column] = words::read::<6>(input)?;
+    let depth = words::as_u32(depth)?;
+    let lines = as_lines(stride, width, rows)?;
+    let row = words::as_usize(row)?;
+    let column = words::as_usize(column)?;
+    case(
+        input,
+        rt,
+        room,
+        Call::Step(Place { depth, row, column }),
+        lines,
+    )
 }
 
 // A case of a call that is handed the lines alone.
-pub fn plain(input: &mut impl Read, rt: &impl Print, call: Call) -> Result<(), Stop> {
-    let lines = read_lines(input)?;
-    case(input, rt, call, lines)
+pub fn plain(
+    input: &mut impl Read,
+    rt: &impl Print,
+    room: &mut Room,
+    call: Call,
+) -> Result<(), Stop> {
+    let [stride, width, rows] = words::read::<3>(input)?;
+    let lines = as_lines(stride, width, rows)?;
+    case(input, rt, room, call, lines)
 }
 
 // A case of a call that is handed the number of a step besides.
-pub fn numbered(input: &mut impl Read, rt: &impl Print, call: fn(u32) -> Call) -> Result<(), Stop>
+pub fn numbered(
+    input: &mut impl Read,
+    rt: &impl Print,
+    room: &mut Room,
+    call: fn(u32) -> Call,
+) -> Result<(), Stop>
     requires { IsAlwaysCallable call }
 {
-    let lines = read_lines(input)?;
-    let number = words::read_u32(input)?;
-    case(input, rt, call(number), lines)
+    let [stride, width, rows, number] = words::read::<4>(input)?;
+    let lines = as_lines(stride, width, rows)?;
+    let number = words::as_u32(number)?;
+    case(input, rt, room, call(number), lines)
 }

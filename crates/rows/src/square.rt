@@ -14,7 +14,7 @@ fn rows(c: &mut [i32], mat: &[i8])
 {
     let n = c.len();
     let mut s = [0i32; 16];
-    s[..n].copy_from_slice(&c[..]);
+    whole::copy(&mut s[..n], &c[..]);
     products(mat, &s[..n], c);
 }
 

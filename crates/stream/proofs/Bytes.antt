@@ -1,6 +1,7 @@
 -- Numbers as bytes. Assumes nothing.
 --     chunk-num             a chunk of four bytes, as `from_le_bytes` reads it, is the number there
---     put-four              four bytes copied to a place, as `to_le_bytes` made them, put the number there
+--     word-read             eight bytes, as `from_le_bytes` reads them, are the word there
+--     put-four, put-eight   bytes copied to a place, as `to_le_bytes` made them, put the number there
 --     num-back              what is put into four bytes is read from them
 --     nums-more, nums-done  a loop that puts a list of numbers: one more, and none left
 use mathlib.Core.Path.{◌≡◌, refl, sym, ap, ◌∙◌}
@@ -12,13 +13,13 @@ use native.Mathlib.Omega.{arith}
 use lib.IntN.{ℤ, pos}
 use lib.ListN.{length, get_or, set, take, drop, length-set, drop_of_length-le}
 use lib.Seq.{drop-cons, drop-drop, get_or-set_same, get_or-set_other}
-use mir.Syntax.{w32}
+use mir.Syntax.{w32, w64}
 use mir.Val.{of_z}
 use borrow.Rule.Slice.PartMut.{put_mid}
 use Rattle.std.specs.Int.{from_le_bytes, to_le_bytes}
 use Rattle.std.specs.Simd.{first_chunks}
 use Rattle.std.proofs.lemmas.List.{get_or-drop, get_or-take}
-use Rattle.stream.specs.Bytes.{joined, num_at, num_put, nums_put}
+use Rattle.stream.specs.Bytes.{joined, num_at, word_at, num_put, word_put, nums_put}
 
 -- the four bytes of a number, and the number
 whole : (n : ℕ) → n < 4294967296 → joined (n % 256) (n / 256 % 256) (n / 65536 % 256) (n / 16777216 % 256) ≡ n
@@ -106,6 +107,21 @@ pub chunk-num : (n c k : ℕ) (b d : List ℕ) → k < n → n ≤ c → from_le
 chunk-num n c k b d h l =
     ap (from_le_bytes w32) (get_or-take n (first_chunks 4 c b) k d h ∙ chunk k c b d (omega arith)) ∙ le-num b (4 * k)
 
+le-word : (b : List ℕ) (at : ℕ) → from_le_bytes w64 (take 8 (drop at b)) ≡ word_at b at
+unfolding num_at
+le-word b at =
+    let e : (i : ℕ) → i < 8 → get_or (take 8 (drop at b)) i 0 ≡ get_or b (at + i) 0 = λ i h. get_or-take 8 (drop at b) i 0 h ∙ get_or-drop at b i 0 in
+    let five : at + 4 + 1 ≡ at + 5 = omega arith in
+    let six : at + 4 + 2 ≡ at + 6 = omega arith in
+    let seven : at + 4 + 3 ≡ at + 7 = omega arith in
+    rw (five, six, seven)
+    (omega (arith, e 0 (omega arith), e 1 (omega arith), e 2 (omega arith), e 3 (omega arith), e 4 (omega arith), e 5 (omega arith), e 6 (omega arith), e 7 (omega arith), ap (λ j. get_or b j 0) (add-zero at)))
+
+pub word-read : (b : List ℕ) (at : ℕ) {l : List ℕ} → l ≡ take (at + 8 - at) (drop at b) → from_le_bytes w64 l ≡ word_at b at
+word-read b at {l} e =
+    let k : at + 8 - at ≡ 8 = omega arith in
+    ap (from_le_bytes w64) (e ∙ ap (λ j. take j (drop at b)) k) ∙ le-word b at
+
 over : (a : ℕ) (b : List ℕ) (p q r s : ℕ) → a + 4 ≤ length b
     → take a b ++ ((p ∷ q ∷ r ∷ s ∷ []) ++ drop (suc (suc (suc (suc a)))) b) ≡ set (set (set (set b a p) (suc a) q) (suc (suc a)) r) (suc (suc (suc a))) s
 over a [] p q r s h = absurd (omega arith)
@@ -129,3 +145,54 @@ put-four b at m n {ys} h e f =
     ∙ ap (λ l. take at b ++ (ys ++ l)) (drop-drop 4 at b ∙ ap (λ j. drop j b) end)
     ∙ ap (λ l. take at b ++ (l ++ drop (suc (suc (suc (suc at)))) b)) (e ∙ ap (to_le_bytes w32) f)
     ∙ over at b (n % 256) (n / 256 % 256) (n / 65536 % 256) (n / 16777216 % 256) h)
+
+-- a place some places further on
+abbrev on : ℕ → ℕ → ℕ
+on zero a = a
+on (suc k) a = suc (on k a)
+
+-- the same of eight
+over-eight : (a : ℕ) (b : List ℕ) (p q r s t u v w : ℕ) → a + 8 ≤ length b
+    → take a b ++ ((p ∷ q ∷ r ∷ s ∷ t ∷ u ∷ v ∷ w ∷ []) ++ drop (on 8 a) b)
+    ≡ set (set (set (set (set (set (set (set b a p) (on 1 a) q) (on 2 a) r) (on 3 a) s) (on 4 a) t) (on 5 a) u) (on 6 a) v) (on 7 a) w
+over-eight a [] p q r s t u v w h = absurd (omega arith)
+over-eight zero (_ ∷ []) p q r s t u v w h = absurd (omega arith)
+over-eight zero (_ ∷ _ ∷ []) p q r s t u v w h = absurd (omega arith)
+over-eight zero (_ ∷ _ ∷ _ ∷ []) p q r s t u v w h = absurd (omega arith)
+over-eight zero (_ ∷ _ ∷ _ ∷ _ ∷ []) p q r s t u v w h = absurd (omega arith)
+over-eight zero (_ ∷ _ ∷ _ ∷ _ ∷ _ ∷ []) p q r s t u v w h = absurd (omega arith)
+over-eight zero (_ ∷ _ ∷ _ ∷ _ ∷ _ ∷ _ ∷ []) p q r s t u v w h = absurd (omega arith)
+over-eight zero (_ ∷ _ ∷ _ ∷ _ ∷ _ ∷ _ ∷ _ ∷ []) p q r s t u v w h = absurd (omega arith)
+over-eight zero (_ ∷ _ ∷ _ ∷ _ ∷ _ ∷ _ ∷ _ ∷ _ ∷ b) p q r s t u v w h = refl
+over-eight (suc a) (x ∷ b) p q r s t u v w h = ap (λ l. x ∷ l) (over-eight a b p q r s t u v w (omega arith))
+
+-- the bytes of a word's lower half
+low : (n : ℕ) → (n % 4294967296 % 256 ≡ n % 256) × (n % 4294967296 / 256 % 256 ≡ n / 256 % 256) × (n % 4294967296 / 65536 % 256 ≡ n / 65536 % 256)
+    × (n % 4294967296 / 16777216 % 256 ≡ n / 16777216 % 256)
+low n = (omega arith, omega arith, omega arith, omega arith)
+
+-- and all its bytes, by its halves
+halves : (n : ℕ) → to_le_bytes w64 n ≡ to_le_bytes w32 (n % 4294967296) ++ to_le_bytes w32 (n / 4294967296 % 4294967296)
+halves n =
+    let l = low n in
+    let h = low (n / 4294967296) in
+    let up : (p : ℕ) → n / 4294967296 / p % 256 ≡ n / (4294967296 * p) % 256 = λ p. ap (λ m. m % 256) (div-div-eq-div-mul n 4294967296 p) in
+    sym (λ i. l.0 i ∷ l.1 i ∷ l.2 i ∷ l.3 i ∷ h.0 i ∷ (h.1 ∙ up 256) i ∷ (h.2 ∙ up 65536) i ∷ (h.3 ∙ up 16777216) i ∷ [])
+
+pub put-eight : (b : List ℕ) (at n : ℕ) {ys : List ℕ} → at + 8 ≤ length b → ys ≡ to_le_bytes w64 n → put_mid at (at + 8 - at) b ys ≡ word_put b at n
+unfolding num_put
+put-eight b at n {ys} h e =
+    let k : at + 8 - at ≡ 8 = omega arith in
+    let one : at + 1 ≡ on 1 at = omega arith in
+    let two : at + 2 ≡ on 2 at = omega arith in
+    let three : at + 3 ≡ on 3 at = omega arith in
+    let four : at + 4 ≡ on 4 at = omega arith in
+    let five : at + 4 + 1 ≡ on 5 at = omega arith in
+    let six : at + 4 + 2 ≡ on 6 at = omega arith in
+    let seven : at + 4 + 3 ≡ on 7 at = omega arith in
+    let end : at + 8 ≡ on 8 at = omega arith in
+    rw (five, six, seven, four, one, two, three)
+    (ap (λ j. take at b ++ (ys ++ drop j (drop at b))) k
+    ∙ ap (λ l. take at b ++ (ys ++ l)) (drop-drop 8 at b ∙ ap (λ j. drop j b) end)
+    ∙ ap (λ l. take at b ++ (l ++ drop (on 8 at) b)) (e ∙ halves n)
+    ∙ over-eight at b _ _ _ _ _ _ _ _ h)

@@ -1,12 +1,30 @@
 // Numbers as bytes, the lowest byte first, and lists of numbers turned into others.
-ghost use Rattle.std.specs.Prelude.{ℕ, ◌*◌, ◌<◌, ◌≤◌, ◌≡◌, true, false, pos, nat_abs, length, get_or, MatchOption, OnOk};
+ghost use Rattle.std.specs.Prelude.{ℕ, ◌+◌, ◌*◌, ◌<◌, ◌≤◌, ◌≡◌, true, false, pos, nat_abs, length, get_or, MatchOption, OnOk};
 ghost use Rattle.std.specs.Int.{w32, w64};
 ghost use Rattle.std.proofs.Common.{to_z, of_z};
 ghost use Rattle.whole.specs.Numbers.{in_range, lowest, highest};
 ghost use Rattle.whole.specs.Sums.{tab};
-ghost use Rattle.stream.specs.Bytes.{num_at, nums_put};
+ghost use Rattle.stream.specs.Bytes.{num_at, word_at, word_put, nums_put};
 
 use std::num::TryFromIntError;
+
+// The eight bytes from a place on, as a number.
+pub fn word_at(bytes: &[u8], at: usize) -> u64
+    requires { at + 8 ≤ length bytes.now }
+    ensures { result ≡ word_at bytes.now at }
+{
+    let mut word = [0; 8];
+    word.copy_from_slice(&bytes[at..at + 8]);
+    u64::from_le_bytes(word)
+}
+
+// A word as eight bytes, from a place on.
+pub fn put_word(bytes: &mut [u8], at: usize, word: u64)
+    requires { at + 8 ≤ length bytes.old }
+    ensures { bytes.new ≡ word_put bytes.old at word }
+{
+    bytes[at..at + 8].copy_from_slice(&word.to_le_bytes());
+}
 
 // The signed number of a word, where it is an i32.
 pub fn narrow(word: u64) -> Option<i32>

@@ -43,7 +43,7 @@ pub fn next_word(input: &mut impl Read) -> Result<Option<u64>, Stop> {
     let mut bytes = [0u8; 8];
     match read_full(input, &mut bytes)? {
         0 => Ok(None),
-        8 => Ok(Some(u64::from_le_bytes(bytes))),
+        8 => Ok(Some(nums::word_at(&bytes, 0))),
         _ => Err(Stop::Broken),
     }
 }
@@ -104,7 +104,9 @@ pub fn read_trimmed(
 
 // Writes a word.
 pub fn write_word(rt: &impl Print, word: u64) -> io::Result<()> {
-    rt.write_all(&word.to_le_bytes())
+    let mut bytes = [0; 8];
+    nums::put_word(&mut bytes, 0, word);
+    rt.write_all(&bytes)
 }
 
 // Writes an answer, as three words.

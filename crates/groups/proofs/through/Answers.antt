@@ -1,25 +1,14 @@
--- `groups::through` meets its contract: the live numbers of the lines are gathered, put through the kernel, and put back. Assumes nothing.
+-- `groups::through` meets its contract: areas that are long enough, and not larger than 32 records. Assumes nothing.
 use native.Mathlib.Omega.{arith}
-use Rattle.whole.specs.Lanes.{spot}
-use Rattle.groups.proofs.Together.{short, places-less, through-asks, through-gives}
+use Rattle.groups.proofs.Together.{short}
 use Rattle.groups.proofs.through.Goals as goal
 
-pub gather-requires : goal.gather-requires
-gather-requires g c = (omega (arith, short c.args.n c.requires.code_value.1, c.requires.code_value.2), places-less c.requires.code_value.2 c.requires.code_value.3, c.requires.code_value.4, c.requires.code_value.5)
+pub in_areas-requires : goal.in_areas-requires
+in_areas-requires g c =
+    let q = c.requires.code_value in
+    record { space = omega (arith, c.requires.space); code_value = (q.0, q.1, omega arith, q.2, q.3, q.4, q.5); by_index = c.requires.by_index }
 
-pub lane_tx1d_into-requires : goal.lane_tx1d_into-requires
-lane_tx1d_into-requires g c = (
-  c.requires.space,
-  (c.requires.code_value.0, through-asks g.L.Lanes.lane c.args.lines (spot c.args.base c.args.p c.args.s) c.args.work.now c.args.n c.args.m c.args.live c.requires.code_value.1 c.requires.code_value.2 c.gather.new.ls c.gather.auto.ls c.gather.ensures c.requires.by_index),
-)
-
-pub scatter-requires : goal.scatter-requires
-scatter-requires g c = (omega (arith, short c.args.n c.requires.code_value.1, c.lane_tx1d_into.auto.out), c.requires.code_value.3, c.requires.code_value.4, c.requires.code_value.5)
-
-pub returns : goal.returns
-returns g c =
-    record {
-      by_index_2 = through-gives g.L.Lanes.lane c.args.lines (spot c.args.base c.args.p c.args.s) c.args.work.now c.args.n c.args.m c.args.live c.requires.code_value.1 c.requires.code_value.2 c.gather.new.ls c.gather.auto.ls c.gather.ensures c.args.code
-          c.lane_tx1d_into.new.out c.lane_tx1d_into.ensures c.scatter.new.work c.scatter.ensures.by_index;
-      by_index_3 = c.scatter.ensures.by_index_2;
-    }
+pub in_areas-requires-else-m-le8 : goal.in_areas-requires-else-m-le8
+in_areas-requires-else-m-le8 g c =
+    let q = c.requires.code_value in
+    record { space = c.requires.space; code_value = (q.0, q.1, short c.args.n q.1, q.2, q.3, q.4, q.5); by_index = c.requires.by_index }

@@ -69,6 +69,6 @@ look-requires g c =
         most = (past-good (area (s.stride * s.height) s.stride s.width s.height) (memory s q.room.now q.steps.now q.levels.now q.index.now) h.1).keeping.most;
         cells = some-cells s q.list.now q.room.now q.levels.now q.steps.now q.index.now r.screen r.last h.0.0 n k;
       },
-      subst (λ (o : Option Screen). Ordered (Looks m.l) o (count q.steps.now) q.list.now) m.is-1
-          (subst (λ (k : Command). Ordered k q.s (count q.steps.now) q.list.now) m.is-0 c.requires.ordered.0),
+      (subst (λ (o : Option Screen). Ordered (Looks m.l) o (count q.steps.now) q.list.now) m.is-1
+          (subst (λ (k : Command). Ordered k q.s (count q.steps.now) q.list.now) m.is-0 c.requires.ordered.0)).1,
     )

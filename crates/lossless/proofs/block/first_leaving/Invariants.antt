@@ -2,6 +2,7 @@ use mathlib.Core.Path.{◌≡◌}
 use mathlib.Core.Bool.{Bool}
 use Prim.Native.Nat.{ℕ, ◌-◌, ◌+◌, ◌*◌}
 use lib.IntN.{pos}
+use Rattle.std.specs.Prelude.{None}
 use Rattle.whole.specs.Sums.{item}
 use Rattle.whole.specs.Numbers.{in_range}
 use Rattle.whole.specs.Search.{seek, cell_at}
@@ -13,7 +14,7 @@ abbrev pub Left : (ℕ → Bool) → ℕ → Type 0
 Left ok k = seek ok 0 16 ≡ seek ok k (16 - k)
 
 abbrev pub invariant-loop-x : goal.invariant-loop-x
-invariant-loop-x l = Left (later_ok (in_range (pos 0) l.hi) (cell_at l.start l.stride 4) l.plane (item l.gains)) (l.r * 4 + l.x)
+invariant-loop-x l = (l.found ≡ None) × Left (later_ok (in_range (pos 0) l.hi) (cell_at l.start l.stride 4) l.plane (item l.gains)) (l.r * 4 + l.x)
 
-abbrev pub invariant-loop-r : goal.invariant-loop-r
-invariant-loop-r l = Left (later_ok (in_range (pos 0) l.hi) (cell_at l.start l.stride 4) l.plane (item l.gains)) (l.r * 4)
+abbrev pub invariant-rows : goal.invariant-rows
+invariant-rows l = (l.found ≡ None) × Left (later_ok (in_range (pos 0) l.hi) (cell_at l.start l.stride 4) l.plane (item l.gains)) (l.r * 4)

@@ -2,9 +2,9 @@
 use mathlib.Core.Path.{◌≡◌, subst}
 use mathlib.Core.Bool.{true}
 use mathlib.Core.List.{List}
-use Prim.Native.Nat.{ℕ, ◌+◌, ◌*◌, ◌^◌, ◌≤◌, ◌<◌}
+use Prim.Native.Nat.{ℕ, ◌+◌, ◌*◌, ◌%◌, ◌^◌, ◌≤◌, ◌<◌}
 use native.Mathlib.Omega.{arith}
-use lib.Dec.{lit<, lit≤}
+use lib.Dec.{lit≤}
 use lib.IntN.{ℤ, pos, nat_abs}
 use lib.ListN.{length, get_or}
 use Rattle.whole.specs.Lanes.{Places}
@@ -31,12 +31,12 @@ module _ (s : Start) where
 
   abbrev Asks : Type 0
   Asks =
-      ((has_kind s.args.n s.args.code ≡ true) × (cut s.args.n ≡ s.args.sh) × (0 < 4) × (s.args.sw ≤ 32) × (1 ≤ 32) × (s.args.live ≤ s.args.sh) × Places s.args.sw s.args.sh (λ k x. k * 1 + x * s.args.sw) (length s.args.work.now))
+      ((has_kind s.args.n s.args.code ≡ true) × (cut s.args.n ≡ s.args.sh) × (s.args.sw % 4 ≡ 0) × (s.args.sw ≤ 32) × (1 ≤ 32) × (s.args.live ≤ s.args.sh) × Places s.args.sw s.args.sh (λ k x. k * 1 + x * s.args.sw) (length s.args.work.now))
       × ((k x : ℕ) → k < s.args.sw → x < s.args.live → nat_abs (get_or s.args.work.now (k * 1 + x * s.args.sw) (pos 0)) ≤ 2 ^ 19)
 
   asks : Asks
   asks = (
-    (s.requires.0, s.requires.1, lit< tt, s.requires.3, lit≤ tt, s.requires.5, lines-places 1 s.args.sw cell (placed s.args.sw) (column-places s.args.sw s.args.sh (length s.args.work.now) s.requires.4)),
+    (s.requires.0, s.requires.1, s.requires.2, s.requires.3, lit≤ tt, s.requires.5, lines-places 1 s.args.sw cell (placed s.args.sw) (column-places s.args.sw s.args.sh (length s.args.work.now) s.requires.4)),
     lines-bound 1 s.args.sw cell (placed s.args.sw) (2 ^ 19) s.args.work.now (λ k x a b. s.requires.6 x k b a),
   )
 
@@ -45,10 +45,10 @@ module _ (s : Start) where
   gives u h r x a b = lines-gained 1 s.args.sw cell (placed s.args.sw) (first_dense s.args.n s.args.code s.args.live) s.args.sh s.args.work.now u x r (h x r b a)
 
 pub lane_pass-requires : goal.lane_pass-requires
-lane_pass-requires c = let q = asks c.before.before in record { space = lit< tt; code_value = (q.0.0, q.0.1, lit< tt, q.0.3, q.0.4, q.0.5, q.0.6); by_index = q.1 }
+lane_pass-requires c = let q = asks c.before.before in record { code_value = q.0; by_index = q.1 }
 
 pub lane_pass-requires-in-Four : goal.lane_pass-requires-in-Four
-lane_pass-requires-in-Four c = let q = asks c.before.before in record { space = lit< tt; code_value = (q.0.0, q.0.1, lit< tt, q.0.3, q.0.4, q.0.5, q.0.6); by_index = q.1 }
+lane_pass-requires-in-Four c = let q = asks c.before.before in record { code_value = q.0; by_index = q.1 }
 
 pub col_pass-requires : goal.col_pass-requires
 col_pass-requires c = (c.requires.0, c.requires.1, subst (λ (j : ℕ). j ≤ 32) c.requires.1 (cut_most c.args.n), c.requires.4, c.requires.5, c.requires.6)
