@@ -149,7 +149,7 @@ pub fn obey(
 {
     match act {
         Act::One(call) => {
-            let r = past::obey(call, s, list, plane, steps, levels, index);
+            let r = past::obey(u32::from(call), s, list, plane, steps, levels, index);
             say_done(log, call, list, r, word(steps, 0))
         }
         Act::Undo => {

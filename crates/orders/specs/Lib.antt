@@ -1,2 +1,3 @@
--- Orders: a command that can be carried out.
+-- Orders: a command that can be carried out, and what numbers it takes.
 pub mod Orders
+pub mod Forms

@@ -155,10 +155,10 @@ fn fits(
 fn takes(entry: Entry, list: &[i32], count: usize) -> Result<(), Bad>
     requires { 1028 ≤ length list.now }
 {
-    if !entry.form.takes(count) {
+    if !names::takes(entry.form, count) {
         return Err(Bad::Takes(entry.word, entry.form));
     }
-    let n = entry.form.heads(count);
+    let n = names::heads(entry.form, count);
     match list[..n].iter().position(|z| *z < 0) {
         Some(k) => Err(Bad::Negative(k + 1)),
         None => Ok(()),

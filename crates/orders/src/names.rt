@@ -1,6 +1,7 @@
 // The commands by their words, and how many numbers each takes.
 ghost use Rattle.std.specs.Prelude.{◌≤◌, ◌≡◌, true, IfSome};
 ghost use Rattle.words.specs.Words.{alike};
+ghost use Rattle.orders.specs.Forms.{form_of};
 
 use screen::command::{Act, Call, Command, Look};
 use std::fmt;
@@ -15,6 +16,23 @@ pub enum Form {
     Count,
     Number,
     Place,
+}
+
+// The form by its number: any other than these six takes nothing.
+impl From<u32> for Form {
+    ghost from_gives = { λ n f. f ≡ form_of n };
+
+    fn from(number: u32) -> Form {
+        match number {
+            1 => Form::Screen,
+            2 => Form::Block,
+            3 => Form::Change,
+            4 => Form::Count,
+            5 => Form::Number,
+            6 => Form::Place,
+            _ => Form::Nothing,
+        }
+    }
 }
 
 impl fmt::Display for Form {
@@ -54,6 +72,20 @@ impl Form {
             _ => count.min(4),
         }
     }
+}
+
+// Whether a form, or the one of a number, has so many numbers.
+pub fn takes(form: impl Into<Form>, count: usize) -> bool {
+    let form: Form = form.into();
+    form.takes(count)
+}
+
+// How many of its numbers, the first, may not be negative.
+pub fn heads(form: impl Into<Form>, count: usize) -> usize
+    ensures { result ≤ 4 }
+{
+    let form: Form = form.into();
+    form.heads(count)
 }
 
 // A command, its word, and what it takes.

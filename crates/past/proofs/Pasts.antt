@@ -7,6 +7,7 @@
 --     past-undone, undo-done, count-undone     the newest step taken back: it is accepted, and one step less remains
 --     past_after                 the memory after any command
 --     obey-number, after-number, fits-number     a call and a command by its number: what it does; that a change alone asks for something
+--     call-number                the call of a call's own number is that call
 --     Undoing, undoing-more     a loop that takes back the newest steps
 --     redrawn-kept, redrawn-new      a block that is refused, and one that is drawn
 --     change-is, fold_is         the calls behind a change and a fold
@@ -51,7 +52,7 @@ use Rattle.screen.specs.declared.command.Call.TheVariants.{Block, Change, Withdr
 use Rattle.screen.specs.declared.command.Act.{Act}
 use Rattle.screen.specs.declared.command.Act.TheVariants.{One, Undo}
 use Rattle.screen.specs.Screens.{Sound}
-use Rattle.screen.specs.Commands.{call_of, CallFits}
+use Rattle.screen.specs.Commands.{call_of, number_of, CallFits}
 use Rattle.screen.specs.Steps.{wanted, levels_to}
 use Rattle.screen.proofs.Planes.{screen-part}
 use Rattle.past.specs.Commands.{emptied, redrawn_of, changed_of, folded_of, obey_of, undone, act_of, after_of, cells, Past, Held}
@@ -182,6 +183,12 @@ fits-number n s list f = go (eqb n 2) (eqb n 3) refl (eqb n 4)
     go false true e z = f (eqb-true n 3 e)
     go false false e true = tt
     go false false e false = tt
+
+pub call-number : (c : Call) → call_of (number_of c) ≡ c
+call-number Block = refl
+call-number Change = refl
+call-number Withdraw = refl
+call-number Fold = refl
 
 -- ---- a new screen
 pub few-cells : (w h : ℕ) → w ≤ 256 → h ≤ 256 → across h * across w ≤ 4096

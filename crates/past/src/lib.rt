@@ -12,7 +12,7 @@ ghost use Rattle.remain.specs.Touch.{across};
 ghost use Rattle.history.specs.Calls.{lent, undo_of};
 ghost use Rattle.screen.specs.Screens.{Sound, Blank, possible_of};
 ghost use Rattle.screen.specs.Steps.{wanted};
-ghost use Rattle.screen.specs.Commands.{CallFits};
+ghost use Rattle.screen.specs.Commands.{call_of, CallFits};
 ghost use Rattle.past.specs.Commands.{redrawn_of, changed_of, obey_of, area_of, Past, Held, Obeyable};
 ghost use Rattle.past.specs.Commands.{cells as Commands·cells};
 
@@ -102,9 +102,10 @@ fn change(
     )
 }
 
-// A block, a change, a withdrawal or a fold, with the numbers of its line.
+// A block, a change, a withdrawal or a fold, by the command's number and the numbers of its line.
+// Kept: a number, and any counts, as GLASS.md has this call; `Call` is what it means.
 pub fn obey(
-    call: Call,
+    command: u32,
     s: Screen,
     list: &[i32],
     plane: &mut [i32],
@@ -112,11 +113,11 @@ pub fn obey(
     levels: &mut [i32],
     index: &mut [u32],
 ) -> Answer
-    requires { Obeyable s list.now plane.old steps.old index.old × CallFits call s list.now }
+    requires { Obeyable s list.now plane.old steps.old index.old × CallFits (call_of command) s list.now }
     ensures { (result, lent plane.new steps.new levels.new index.new)
-        ≡ obey_of (area_of s plane.old) call s.depth list.now (lent plane.old steps.old levels.old index.old) }
+        ≡ obey_of (area_of s plane.old) (call_of command) s.depth list.now (lent plane.old steps.old levels.old index.old) }
 {
-    match call {
+    match Call::from(command) {
         Call::Block => redraw(s, list, plane, steps, levels, index),
         Call::Change => change(s, list, plane, steps, levels, index),
         Call::Withdraw => {

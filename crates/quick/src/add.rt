@@ -6,7 +6,6 @@ ghost use Rattle.pixels.specs.Calls.{add_of, reading_of};
 ghost use Rattle.quick.specs.Quick.{Quick};
 
 use answers::Answer;
-use passes::block::Lanes;
 use pixels::form::Form;
 
 // Whether the narrow passes take a block.
@@ -33,16 +32,12 @@ pub fn is_quick(txtp: usize, tx: usize, bd: u32) -> bool
 }
 
 // How many lines of any other block go through a kernel together: four are fewer instructions than one where both sides are at most 8 and neither kind is DCT.
-fn lanes_of(txtp: usize, tx: usize) -> Lanes {
+fn lanes_of(txtp: usize, tx: usize) -> usize {
     if 24 < tx || tables::kind::hor(txtp) == 0 || tables::kind::ver(txtp) == 0 {
-        return Lanes::One;
+        return 1;
     }
     let s = tables::size::size_of(tx);
-    if s.w <= 8 && s.h <= 8 {
-        Lanes::Four
-    } else {
-        Lanes::One
-    }
+    if s.w <= 8 && s.h <= 8 { 4 } else { 1 }
 }
 
 // The same form, with as many lanes.

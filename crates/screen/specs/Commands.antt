@@ -1,5 +1,6 @@
 -- What a command asks for, on a screen that is there. Definitions only.
 --     call_of n                the call by a command's number: 2 a block, 3 a change, 4 a withdrawal, any other a fold
+--     number_of c              the command's number of a call
 --     CallFits c s list        a change: wanted samples in range
 --     ActFits a s n list       the same, and of an undo: no more than the n steps that remain
 --     LookFits l s list        who: a sample that the screen shows
@@ -17,6 +18,12 @@ use Rattle.screen.specs.Steps.{wanted}
 
 abbrev pub call_of : ℕ → Call
 call_of n = cond (eqb n 2) Block (cond (eqb n 3) Change (cond (eqb n 4) Withdraw Fold))
+
+abbrev pub number_of : Call → ℕ
+number_of Block = 2
+number_of Change = 3
+number_of Withdraw = 4
+number_of Fold = 5
 
 abbrev pub CallFits : Call → Screen → List ℤ → Type 0
 CallFits Block s list = Unit {0}

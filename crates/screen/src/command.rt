@@ -1,6 +1,6 @@
 // The commands on a screen (docs/GLASS.md).
 ghost use Rattle.std.specs.Prelude.{◌≡◌};
-ghost use Rattle.screen.specs.Commands.{call_of};
+ghost use Rattle.screen.specs.Commands.{call_of, number_of};
 
 // A command that is one call on the memory.
 #[derive(Clone, Copy, Debug, PartialEq, Eq)]
@@ -21,6 +21,20 @@ impl From<u32> for Call {
             3 => Call::Change,
             4 => Call::Withdraw,
             _ => Call::Fold,
+        }
+    }
+}
+
+// The command's number of a call.
+impl From<Call> for u32 {
+    ghost from_gives = { λ c n. n ≡ number_of c };
+
+    fn from(call: Call) -> u32 {
+        match call {
+            Call::Block => 2,
+            Call::Change => 3,
+            Call::Withdraw => 4,
+            Call::Fold => 5,
         }
     }
 }

@@ -7,5 +7,5 @@ use Rattle.past.proofs.obey.Goals as goal
 pub returns-in-Fold : goal.returns-in-Fold
 returns-in-Fold c =
     let q = c.args in
-    rw c.in-Fold.is
+    rw (← c.from.ensures, c.in-Fold.is)
     (fold_is (area_of q.s q.plane.now) (lent q.plane.now q.steps.now q.levels.now q.index.now) c.history_fold.ensures)

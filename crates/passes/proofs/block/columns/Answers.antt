@@ -45,19 +45,19 @@ module _ (s : Start) where
   gives u h r x a b = lines-gained 1 s.args.sw cell (placed s.args.sw) (first_dense s.args.n s.args.code s.args.live) s.args.sh s.args.work.now u x r (h x r b a)
 
 pub lane_pass-requires : goal.lane_pass-requires
-lane_pass-requires c = let q = asks c.before.before in record { code_value = q.0; by_index = q.1 }
+lane_pass-requires c = let q = asks c.before.before.before in record { code_value = q.0; by_index = q.1 }
 
 pub lane_pass-requires-in-Four : goal.lane_pass-requires-in-Four
-lane_pass-requires-in-Four c = let q = asks c.before.before in record { code_value = q.0; by_index = q.1 }
+lane_pass-requires-in-Four c = let q = asks c.before.before.before in record { code_value = q.0; by_index = q.1 }
 
 pub col_pass-requires : goal.col_pass-requires
 col_pass-requires c = (c.requires.0, c.requires.1, subst (λ (j : ℕ). j ≤ 32) c.requires.1 (cut_most c.args.n), c.requires.4, c.requires.5, c.requires.6)
 
 pub returns-in-Eight : goal.returns-in-Eight
-returns-in-Eight c = gives c.before.before.before.before c.lane_pass.new.work c.lane_pass.ensures
+returns-in-Eight c = gives c.before.before.before.before.before c.lane_pass.new.work c.lane_pass.ensures
 
 pub returns-in-Four : goal.returns-in-Four
-returns-in-Four c = gives c.before.before.before.before c.lane_pass-in-Four.new.work c.lane_pass-in-Four.ensures
+returns-in-Four c = gives c.before.before.before.before.before c.lane_pass-in-Four.new.work c.lane_pass-in-Four.ensures
 
 pub returns-in-One : goal.returns-in-One
 returns-in-One c = c.col_pass.ensures
