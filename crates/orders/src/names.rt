@@ -1,7 +1,7 @@
 // The commands by their words, and how many numbers each takes.
 ghost use Rattle.std.specs.Prelude.{◌≤◌, ◌≡◌, true, IfSome};
 ghost use Rattle.words.specs.Words.{alike};
-ghost use Rattle.orders.specs.Forms.{form_of};
+ghost use Rattle.orders.specs.Forms.{form_of, takes_of, heads_of, Of};
 
 use screen::command::{Act, Call, Command, Look};
 use std::fmt;
@@ -51,7 +51,9 @@ impl fmt::Display for Form {
 
 impl Form {
     // Whether it has so many numbers.
-    pub fn takes(self, count: usize) -> bool {
+    pub fn takes(self, count: usize) -> bool
+        ensures { result ≡ takes_of self count }
+    {
         match self {
             Form::Nothing => count == 0,
             Form::Screen => count == 3 || count == 4,
@@ -65,7 +67,8 @@ impl Form {
 
     // How many of the numbers, the first, may not be negative.
     pub fn heads(self, count: usize) -> usize
-        ensures { result ≤ 4 }
+        ensures most { result ≤ 4 }
+        ensures value { result ≡ heads_of self count }
     {
         match self {
             Form::Change => 2,
@@ -75,14 +78,17 @@ impl Form {
 }
 
 // Whether a form, or the one of a number, has so many numbers.
-pub fn takes(form: impl Into<Form>, count: usize) -> bool {
+pub fn takes<F: Into<Form>>(form: F, count: usize) -> bool
+    ensures { Of (F.converts form) (λ f. takes_of f count) result }
+{
     let form: Form = form.into();
     form.takes(count)
 }
 
 // How many of its numbers, the first, may not be negative.
-pub fn heads(form: impl Into<Form>, count: usize) -> usize
-    ensures { result ≤ 4 }
+pub fn heads<F: Into<Form>>(form: F, count: usize) -> usize
+    ensures most { result ≤ 4 }
+    ensures value { Of (F.converts form) (λ f. heads_of f count) result }
 {
     let form: Form = form.into();
     form.heads(count)
